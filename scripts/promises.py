@@ -99,7 +99,7 @@ def declared_at(path, lines, at):
     if path.endswith('.c'):
         return os.path.basename(path)[:-2] if re.match(r'int main\b', lines[at]) else None
     if path.endswith('.rt'):
-        match = FUNCTION.match(lines[at]) or re.match(r'^\s+([A-Z]\w*)\s*(?:\{.*\}|\(.*\))?,$', lines[at])
+        match = FUNCTION.match(lines[at]) or re.match(r'^\s+([A-Z]\w*)\s*(?:\{.*\}|\(.*\)|= \d+)?,$', lines[at])
         return match[1] if match else None
     match = DECLARED.match(lines[at])
     if not match or match[3] in ('use', 'module', 'where', 'mod'):

@@ -1,9 +1,10 @@
 -- 256 offsets after 256: what the marks say of fronts, where the search ends, and the halves that are carried on.
 -- Assumes nothing.
-use Rattle.std.specs.Prelude.{Result, Ok, Err}
+use Rattle.rules_calls.specs.declared.Told.{Told}
 use Rattle.rules_calls.specs.declared.Refusal.{Refusal}
 use mathlib.Core.Path.{◌≡◌, refl, sym, ap, ◌∙◌, subst}
 use mathlib.Core.List.{List}
+use Rattle.std.specs.Prelude.{Result, Ok, Err}
 use Prim.Native.Nat.{ℕ, ◌+◌, ◌-◌, ◌/◌, ◌%◌, ◌≤◌, ◌<◌, min}
 use native.Mathlib.Nat.{zero-add}
 use native.Mathlib.Decide.{dec_lt}
@@ -13,13 +14,11 @@ use lib.Seq.{drop-drop}
 use Rattle.rules_chips.specs.Chips.{Taken}
 use Rattle.rules_frame.specs.declared.Kind.{Kind}
 use Rattle.rules_frame.specs.Frame.{sfd_of, front_chips}
-use Rattle.rules_calls.specs.declared.Told.{Told}
 use Rattle.rules_reading.specs.Reading.{front_of}
 use Rattle.rules_reading.proofs.Places.{some_chips}
 use Rattle.rules_finding.specs.declared.NotFound.{NotFound}
 use Rattle.rules_finding.specs.declared.NotFound.TheVariants.{NoStart}
-use Rattle.rules_finding.specs.declared.Finding.{Finding}
-use Rattle.rules_finding.specs.declared.Finding.TheVariants.{Refused, Start}
+use Rattle.rules_finding.specs.declared.Start.{Start}
 use Rattle.rules_finding.specs.Finding.{first_start}
 use Rattle.rules_finding.proofs.Laws.{
   Missed,
@@ -55,30 +54,31 @@ module _ (kind : Kind) (rec : List Taken) where
             m.each j l (ap (octet_at rec) p ∙ sfd_low rec (at + j) kind t g ∙ sym low-is)
             (ap (octet_at rec) q ∙ sfd_high rec (at + j) kind t g ∙ sym high_is) z
 
-  module _ (at count offsets tried : ℕ) (f : Finding) (found : f ≡ first_start kind at count (drop at rec))
+  module _ (at count offsets tried : ℕ) (f : Result Start NotFound) (found : f ≡ first_start kind at count (drop at rec))
       (missed : MissedBelow at tried) where
     -- a start ends the search
-    pub window_hit : at + count ≤ tried → tried ≤ offsets → (offset : ℕ) (t : Told) → f ≡ Start offset t
-        → Start offset t ≡ first_start kind 0 offsets rec
-    window_hit h l offset t e =
+    pub window_hit : at + count ≤ tried → tried ≤ offsets → (s : Start) → f ≡ Ok s
+        → Ok s ≡ first_start kind 0 offsets rec
+    window_hit h l s e =
         let rest : ℕ = offsets - at - count in
-        let s : offsets ≡ at + (count + rest) = omega arith in
+        let split : offsets ≡ at + (count + rest) = omega arith in
         sym
-        (ap (λ (n : ℕ). first_start kind 0 n rec) s
+        (ap (λ (n : ℕ). first_start kind 0 n rec) split
         ∙ start_past kind 0 at (count + rest) rec (λ j k. missed j k (omega arith))
         ∙ ap (λ (n : ℕ). first_start kind n (count + rest) (drop at rec)) (zero-add at)
         ∙ start_joined kind at count rest (drop at rec)
-        ∙ ap {B = Finding}
-        (λ (g : Finding). or_elsewhere kind g (first_start kind (at + count) rest (drop count (drop at rec))))
+        ∙ ap {B = Result Start NotFound}
+        (λ (g : Result Start NotFound). or_elsewhere kind g (first_start kind (at + count) rest (drop count (drop at rec))))
         (sym found ∙ e))
 
     -- no start: the next offsets meet one of 8 to 15 too
-    pub window_miss : count ≡ min (tried - at) 256 → (e : NotFound) → f ≡ Refused e → MissedBelow (at + 256) tried
+    pub window_miss : count ≡ min (tried - at) 256 → (e : NotFound) → f ≡ Err e → MissedBelow (at + 256) tried
     window_miss c e r j l k = by (dec_lt j at)
       where
-        ends : (g : Finding) → f ≡ g → StartIf kind at count (drop at rec) g → AllMissed kind count (drop at rec)
-        ends (Refused x) p s = s.1
-        ends (Start o t) p s = absurd (not_both p r)
+        ends : (g : Result Start NotFound) → f ≡ g → StartIf kind at count (drop at rec) g
+            → AllMissed kind count (drop at rec)
+        ends (Err x) p s = s.1
+        ends (Ok o) p s = absurd (not_both p r)
 
         all : AllMissed kind count (drop at rec)
         all = ends (first_start kind at count (drop at rec)) found (start_comes kind at count (drop at rec))
@@ -94,7 +94,7 @@ module _ (kind : Kind) (rec : List Taken) where
   -- offsets past those tried have no front behind them
   pub window_end : (at offsets tried : ℕ) → tried ≤ at → MissedBelow at tried
       → ((j : ℕ) → tried ≤ j → j < offsets → length rec < j + front_chips kind)
-      → Refused NoStart ≡ first_start kind 0 offsets rec
+      → Err NoStart ≡ first_start kind 0 offsets rec
   window_end at offsets tried h missed short = sym (start_none kind 0 offsets rec (λ j l. by j l (dec_lt j tried)))
     where
       by : (j : ℕ) → j < offsets → Dec (j < tried) → Missed (front_of kind (drop j rec))

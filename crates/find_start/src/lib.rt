@@ -2,38 +2,27 @@
 // 15. An SFD is looked for at 256 offsets at once, and a whole front is read only where one is right.
 #![tactic(auto)]
 
-ghost use Rattle.std.specs.Prelude.{◌≡◌, ℕ, ◌+◌, ◌≤◌, ◌<◌, length, get_or, drop};
+ghost use Rattle.std.specs.Prelude.{◌≡◌, ℕ, ◌+◌, ◌≤◌, ◌<◌, length, get_or, drop, Ok, Err};
 ghost use Rattle.rules_chips.specs.Chips.{hard_recording};
 ghost use Rattle.rules_frame.specs.Frame.{front_chips};
 ghost use Rattle.rules_reading.specs.Reading.{front_of};
-ghost use Rattle.rules_finding.specs.Finding.{start_or, first_start, finding_of, not_found_number, found_of};
+ghost use Rattle.rules_finding.specs.Finding.{start_or, first_start, finding_of, found_of};
 ghost use Rattle.rules_finding.proofs.Laws.{Missed};
 
 use choose_recorders::Recording;
 use rules_calls::{Reader, Refusal, Told};
-use rules_finding::{Finding, Found, NotFound};
+use rules_finding::{Found, NotFound, Start};
 use rules_frame::Kind;
 use rules_rates::Rate;
 
 // ---- answers
 
-// The number of a refusal.
-fn number_of(e: NotFound) -> u64
-    ensures answer { result ≡ not_found_number e }
-{
-    match e {
-        NotFound::NoKind => 1,
-        NotFound::NoOffsets => 18,
-        NotFound::NoStart => 19,
-    }
-}
-
 // A refusal in numbers: all else is 0.
 fn refused(e: NotFound) -> Found
-    ensures answer { result ≡ found_of (Finding.Refused e) }
+    ensures answer { result ≡ found_of (Err e) }
 {
     Found {
-        number: number_of(e),
+        number: e as u64,
         offset: 0,
         rate: 0,
         length: 0,
@@ -43,16 +32,17 @@ fn refused(e: NotFound) -> Found
 }
 
 // A start's offset, and what its header tells, in numbers.
-fn started(offset: usize, t: Told) -> Found
-    ensures answer { result ≡ found_of (Finding.Start offset t) }
+fn started(start: Start) -> Found
+    ensures answer { result ≡ found_of (Ok start) }
 {
+    let Start { offset, told } = start;
     Found {
         number: 0,
         offset: offset as u64,
-        rate: t.rate.code(),
-        length: t.length as u64,
-        clock: t.clock as u64,
-        n: t.n as u64,
+        rate: told.rate.code(),
+        length: told.length as u64,
+        clock: told.clock as u64,
+        n: told.n as u64,
     }
 }
 
@@ -67,37 +57,43 @@ fn front_at(kind: Kind, chips: &[u8], at: usize) -> Result<Told, Refusal>
 }
 
 // Whether a front that tells starts at an offset; it is not read where there is no mark.
-fn try_at(kind: Kind, chips: &[u8], at: usize, mark: u8) -> Finding
+fn try_at(kind: Kind, chips: &[u8], at: usize, mark: u8) -> Result<Start, NotFound>
     requires { (at ≤ length chips.now)
         × (mark ≡ 0 → Missed (front_of kind (drop at (hard_recording chips.now)))) }
     ensures answer { result ≡
-        start_or at (front_of kind (drop at (hard_recording chips.now))) (Finding.Refused NotFound.NoStart) }
+        start_or at (front_of kind (drop at (hard_recording chips.now))) (Err NotFound.NoStart) }
 {
     if mark == 0 {
-        return Finding::Refused(NotFound::NoStart);
+        return Err(NotFound::NoStart);
     }
     match front_at(kind, chips, at) {
-        Err(_) => Finding::Refused(NotFound::NoStart),
-        Ok(told) => Finding::Start { offset: at, told },
+        Err(_) => Err(NotFound::NoStart),
+        Ok(told) => Ok(Start { offset: at, told }),
     }
 }
 
 // The first of so many offsets at which one starts, where those without a mark have none.
-fn seek(kind: Kind, chips: &[u8], at: usize, count: usize, marks: &[u8; 512]) -> Finding
+fn seek(
+    kind: Kind,
+    chips: &[u8],
+    at: usize,
+    count: usize,
+    marks: &[u8; 512],
+) -> Result<Start, NotFound>
     requires { (count ≤ 256) × (at + count ≤ length chips.now)
         × ((j : ℕ) → j < count → get_or marks.now j 0 ≡ 0
         → Missed (front_of kind (drop (at + j) (hard_recording chips.now)))) }
     ensures answer { result ≡ first_start kind at count (drop at (hard_recording chips.now)) }
 {
     if !find_sweep::any(marks) {
-        return Finding::Refused(NotFound::NoStart);
+        return Err(NotFound::NoStart);
     }
     for j in 0..count {
-        if let Finding::Start { offset, told } = try_at(kind, chips, at + j, marks[j]) {
-            return Finding::Start { offset, told };
+        if let Ok(start) = try_at(kind, chips, at + j, marks[j]) {
+            return Ok(start);
         }
     }
-    Finding::Refused(NotFound::NoStart)
+    Err(NotFound::NoStart)
 }
 
 // ---- the search
@@ -115,7 +111,7 @@ fn tries(kind: Kind, chips: usize, offsets: usize) -> usize
 }
 
 // The search over all of them, 256 at once.
-fn search(kind: Kind, chips: &[u8], offsets: usize) -> Finding
+fn search(kind: Kind, chips: &[u8], offsets: usize) -> Result<Start, NotFound>
     requires { offsets ≤ 4096 }
     ensures answer { result ≡ first_start kind 0 offsets (hard_recording chips.now) }
 {
@@ -131,27 +127,34 @@ fn search(kind: Kind, chips: &[u8], offsets: usize) -> Finding
         let count = (tried - at).min(256);
         find_sweep::decide(chips, from + at, known, count + 253, &mut halves);
         find_sweep::marks(low, high, &halves, &mut marks);
-        if let Finding::Start { offset, told } = seek(kind, chips, at, count, &marks) {
-            return Finding::Start { offset, told };
+        if let Ok(start) = seek(kind, chips, at, count, &marks) {
+            return Ok(start);
         }
         find_sweep::advance(&mut halves);
         known = 253;
     }
-    Finding::Refused(NotFound::NoStart)
+    Err(NotFound::NoStart)
 }
 
-// Finds the start: 1, then 18, then the search.
+// The start, or why it is not told: 1, then 18, then the search.
+fn start_of(kind: u64, chips: &[u8], offsets: u64) -> Result<Start, NotFound>
+    ensures answer { result ≡ finding_of kind offsets (hard_recording chips.now) }
+{
+    if !common_kinds::is_kind(kind) {
+        return Err(NotFound::NoKind);
+    }
+    if offsets < 1 || 4096 < offsets {
+        return Err(NotFound::NoOffsets);
+    }
+    search(common_kinds::kind_of(kind), chips, offsets as usize)
+}
+
+// Finds the start.
 pub fn find(kind: u64, chips: &[u8], offsets: u64) -> Found
     ensures answer { result ≡ found_of (finding_of kind offsets (hard_recording chips.now)) }
 {
-    if !common_kinds::is_kind(kind) {
-        return refused(NotFound::NoKind);
-    }
-    if offsets < 1 || 4096 < offsets {
-        return refused(NotFound::NoOffsets);
-    }
-    match search(common_kinds::kind_of(kind), chips, offsets as usize) {
-        Finding::Refused(e) => refused(e),
-        Finding::Start { offset, told } => started(offset, told),
+    match start_of(kind, chips, offsets) {
+        Ok(start) => started(start),
+        Err(e) => refused(e),
     }
 }

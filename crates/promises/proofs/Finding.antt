@@ -1,10 +1,10 @@
 -- Find the start, and the two readers' answers from each offset. A search ends at the first front that is told, or
 -- behind so many that are refused (`finding_comes` of rules_finding); what both readers answer to either is by the
 -- cases of what a front and a payload can be refused with (Refusals.antt of rules_reading). Assumes nothing.
-use Rattle.std.specs.Prelude.{Result, Ok, Err}
 use mathlib.Core.Path.{◌≡◌, refl, sym, ap, ◌∙◌, subst}
 use mathlib.Core.Bool.{true, false}
 use mathlib.Core.List.{List, ◌++◌}
+use Rattle.std.specs.Prelude.{Result, Ok, Err}
 use Prim.Native.Nat.{ℕ, ◌+◌, ◌*◌, ◌≤◌, ◌<◌}
 use native.Mathlib.Decide.{dec_le}
 use native.Mathlib.Omega.{arith}
@@ -43,11 +43,11 @@ use Rattle.rules_reading.proofs.Local.{front_same}
 use Rattle.rules_coming.specs.declared.Coming.{Coming}
 use Rattle.rules_coming.specs.Coming.{front_reading, coming_of}
 use Rattle.rules_coming.proofs.Laws.{coming_refused, coming_told, coming_ends}
+use Rattle.rules_finding.specs.declared.NotFound.{NotFound}
 use Rattle.rules_finding.specs.declared.NotFound.TheVariants.{NoKind, NoOffsets, NoStart}
-use Rattle.rules_finding.specs.declared.Finding.{Finding}
-use Rattle.rules_finding.specs.declared.Finding.TheVariants.{Refused, Start}
+use Rattle.rules_finding.specs.declared.Start.{Start}
 use Rattle.rules_finding.specs.declared.Found.{Found}
-use Rattle.rules_finding.specs.Finding.{is_offsets, finding_of, found_of}
+use Rattle.rules_finding.specs.Finding.{is_offsets, start_at, finding_of, found_of}
 use Rattle.rules_finding.proofs.Laws.{
   Missed,
   AllMissed,
@@ -249,7 +249,7 @@ module _ (kind offsets : ℕ) (chips : List ℕ) where
         (missed kind (drop o chips) s.0 h)
 
     found_at : (offset : ℕ) (t : Told) → StartsAt (kind_of kind) 0 offsets all offset t
-        → WhenFound kind offsets chips (found_of (Start offset t))
+        → WhenFound kind offsets chips (found_of (start_at offset t))
     found_at offset t h =
         let r = t.rate in
         let m = front_chips (kind_of kind) in
@@ -287,26 +287,27 @@ module _ (kind offsets : ℕ) (chips : List ℕ) where
         ap found_of (finding_first kind offsets all s.0 s.1 ∙ start_none (kind_of kind) 0 offsets all h)
 
     -- a number but 19
-    no_other : (g : Finding) → FindingIf kind offsets all g → ((found_of g).number ≡ 19 → ⊥) → (found_of g).number ≡ 0
-    no_other (Refused NoKind) w z = absurd (subst T (sym s.0 ∙ w) tt)
-    no_other (Refused NoOffsets) w z = absurd (subst T (sym s.1 ∙ w.1) tt)
-    no_other (Refused NoStart) w z = absurd (z refl)
-    no_other (Start offset t) w z = refl
+    no_other : (g : Result Start NotFound) → FindingIf kind offsets all g → ((found_of g).number ≡ 19 → ⊥)
+        → (found_of g).number ≡ 0
+    no_other (Err NoKind) w z = absurd (subst T (sym s.0 ∙ w) tt)
+    no_other (Err NoOffsets) w z = absurd (subst T (sym s.1 ∙ w.1) tt)
+    no_other (Err NoStart) w z = absurd (z refl)
+    no_other (Ok s) w z = refl
 
   -- by its number
-  when_none : (g : Finding) → FindingIf kind offsets all g → (found_of g).number ≡ 19
+  when_none : (g : Result Start NotFound) → FindingIf kind offsets all g → (found_of g).number ≡ 19
       → WhenNone kind offsets chips (found_of g)
-  when_none (Refused NoKind) h e = absurd (omega (arith, e))
-  when_none (Refused NoOffsets) h e = absurd (omega (arith, e))
-  when_none (Refused NoStart) h e = none_at h.0 h.1
-  when_none (Start offset t) h e = absurd (omega (arith, e))
+  when_none (Err NoKind) h e = absurd (omega (arith, e))
+  when_none (Err NoOffsets) h e = absurd (omega (arith, e))
+  when_none (Err NoStart) h e = none_at h.0 h.1
+  when_none (Ok s) h e = absurd (omega (arith, e))
 
-  when_found : (g : Finding) → FindingIf kind offsets all g → (found_of g).number ≡ 0
+  when_found : (g : Result Start NotFound) → FindingIf kind offsets all g → (found_of g).number ≡ 0
       → WhenFound kind offsets chips (found_of g)
-  when_found (Refused NoKind) h e = absurd (omega (arith, e))
-  when_found (Refused NoOffsets) h e = absurd (omega (arith, e))
-  when_found (Refused NoStart) h e = absurd (omega (arith, e))
-  when_found (Start offset t) h e = found_at h.0 offset t h.1
+  when_found (Err NoKind) h e = absurd (omega (arith, e))
+  when_found (Err NoOffsets) h e = absurd (omega (arith, e))
+  when_found (Err NoStart) h e = absurd (omega (arith, e))
+  when_found (Ok s) h e = found_at h.0 s.offset s.told h.1
 
   number_is : (f : Found) → Finds kind offsets chips f → f.number ≡ (found_of (finding_of kind offsets all)).number
   number_is f x = ap (λ (v : Found). v.number) x.answer

@@ -114,9 +114,9 @@ fn header_of(header: &[u8]) -> [u8; 6]
     requires { length header.now ≡ 6 }
     ensures answer { result ≡ header.now }
 {
-    [
-        header[0], header[1], header[2], header[3], header[4], header[5],
-    ]
+    let mut octets = [0; 6];
+    octets.copy_from_slice(header);
+    octets
 }
 
 // A refusal that stays, whatever follows.

@@ -39,7 +39,9 @@ fn sound_refused(p: Progress) -> bool
     }
 }
 
-// Whether a receiver takes a feed or a close with a buffer of so many octets.
+// Whether a receiver takes a feed or a close with a buffer of so many octets. Called, it would cost a feed of few chips
+// more than it does itself.
+#[inline(always)]
 pub fn takes(p: Progress, room: usize) -> bool
     ensures answer { result ≡ takes p room }
 {

@@ -52,64 +52,6 @@ pub fn unusable_from(row: &[u8], at: usize) -> Option<usize>
     placed(Recording::Hard(row).first_unusable(0, row.len()), at)
 }
 
-// Whole octets of usable chips.
-fn hear_usable(rate: Rate, at: usize, symbol: usize, ear: Ear, row: &[u8], out: &mut [u8]) -> Piece
-    requires { (length row.now ≡ octet_chips rate * length out.old) × (at + length row.now ≤ 1000000)
-        × (symbol ≤ 1000000) × (ear.phase < 4) × (first_unusable at (hard_recording row.now) ≡ None) }
-    ensures answer { WholeHeard rate at symbol ear row.now (length out.old) result
-        out.new }
-{
-    let line = Line {
-        past: ear.past,
-        phase: ear.phase,
-    };
-    let least = Least {
-        lead: ear.lead,
-        symbol: ear.symbol,
-    };
-    let part = hear_parts::hear_octets(Recording::Hard(row), rate, 0, symbol, line, least, out);
-    let after = part.heard.line;
-    let ear = Ear {
-        lead: part.least.lead,
-        symbol: part.least.symbol,
-        past: after.past,
-        phase: after.phase,
-        last: after.phase,
-    };
-    let odd = placed(part.heard.odd, at);
-    Piece {
-        ear,
-        bad: None,
-        odd,
-    }
-}
-
-// Whole octets of a row whose first chip is chip `at` of the recording and whose first symbol is number `symbol` of the
-// frame, as many as there is room for: 9, then 10, then the octets.
-pub fn hear_whole(
-    rate: Rate,
-    at: usize,
-    symbol: usize,
-    ear: Ear,
-    row: &[u8],
-    out: &mut [u8],
-) -> Piece
-    requires { (length row.now ≡ octet_chips rate * length out.old) × (at + length row.now ≤ 1000000)
-        × (symbol ≤ 1000000) × (ear.phase < 4) × (ear.last < 4) }
-    ensures answer { WholeHeard rate at symbol ear row.now (length out.old) result
-        out.new }
-{
-    let bad = unusable_from(row, at);
-    match bad {
-        Some(_) => Piece {
-            ear,
-            bad,
-            odd: None,
-        },
-        None => hear_usable(rate, at, symbol, ear, row, out),
-    }
-}
-
 // The whole symbols of a row of usable chips at 1 Mbit/s, but for those that were whole when it had h chips. The row's
 // first chip is chip `at` of the recording; the symbol before the new ones has phase `last`.
 fn look(row: &[u8], at: usize, h: usize, last: u8) -> Grown
@@ -136,34 +78,102 @@ fn look(row: &[u8], at: usize, h: usize, last: u8) -> Grown
     Grown { odd: None, last: p }
 }
 
-// An octet that is not whole, of which h chips were held before: 9, then 10 of its new whole symbols.
-pub fn hold_part(rate: Rate, at: usize, ear: Ear, h: usize, row: &[u8]) -> Piece
-    requires { (length row.now ≤ octet_chips rate) × (h ≤ length row.now) × (at ≤ 900000) × (ear.last < 4) }
-    ensures answer { PartHeld rate at ear h row.now result }
-{
-    let bad = unusable_from(row, at);
-    if bad.is_some() {
-        return Piece {
+// Where a row starts: its rate, its first chip as a place of the recording, its first symbol as a number of the frame, and
+// what hearing goes on from.
+#[derive(Clone, Copy)]
+pub struct Start {
+    pub rate: Rate,
+    pub at: usize,
+    pub symbol: usize,
+    pub ear: Ear,
+}
+
+impl Start {
+    // Whole octets of usable chips.
+    fn hear_usable(self, row: &[u8], out: &mut [u8]) -> Piece
+        requires { (length row.now ≡ octet_chips self.rate * length out.old) × (self.at + length row.now ≤ 1000000)
+            × (self.symbol ≤ 1000000) × (self.ear.phase < 4)
+            × (first_unusable self.at (hard_recording row.now) ≡ None) }
+        ensures answer { WholeHeard self.rate self.at self.symbol self.ear row.now (length out.old) result out.new }
+    {
+        let Start {
+            rate,
+            at,
+            symbol,
             ear,
-            bad,
-            odd: None,
+        } = self;
+        let line = Line {
+            past: ear.past,
+            phase: ear.phase,
         };
+        let least = Least {
+            lead: ear.lead,
+            symbol: ear.symbol,
+        };
+        let part = hear_parts::hear_octets(Recording::Hard(row), rate, 0, symbol, line, least, out);
+        let after = part.heard.line;
+        let ear = Ear {
+            lead: part.least.lead,
+            symbol: part.least.symbol,
+            past: after.past,
+            phase: after.phase,
+            last: after.phase,
+        };
+        let odd = placed(part.heard.odd, at);
+        Piece {
+            ear,
+            bad: None,
+            odd,
+        }
     }
-    match rate {
-        Rate::One => {
-            let looked = look(row, at, h, ear.last);
-            let mut ear = ear;
-            ear.last = looked.last;
-            Piece {
+
+    // Whole octets, as many as there is room for: 9, then 10, then the octets.
+    pub fn hear_whole(self, row: &[u8], out: &mut [u8]) -> Piece
+        requires { (length row.now ≡ octet_chips self.rate * length out.old) × (self.at + length row.now ≤ 1000000)
+            × (self.symbol ≤ 1000000) × (self.ear.phase < 4) × (self.ear.last < 4) }
+        ensures answer { WholeHeard self.rate self.at self.symbol self.ear row.now (length out.old) result out.new }
+    {
+        let bad = unusable_from(row, self.at);
+        match bad {
+            Some(_) => Piece {
+                ear: self.ear,
+                bad,
+                odd: None,
+            },
+            None => self.hear_usable(row, out),
+        }
+    }
+
+    // An octet that is not whole, of which h chips were held before: 9, then 10 of its new whole symbols.
+    pub fn hold_part(self, h: usize, row: &[u8]) -> Piece
+        requires { (length row.now ≤ octet_chips self.rate) × (h ≤ length row.now) × (self.at ≤ 900000)
+            × (self.ear.last < 4) }
+        ensures answer { PartHeld self.rate self.at self.ear h row.now result }
+    {
+        let mut ear = self.ear;
+        let bad = unusable_from(row, self.at);
+        if bad.is_some() {
+            return Piece {
                 ear,
                 bad,
-                odd: looked.odd,
-            }
+                odd: None,
+            };
         }
-        Rate::Two | Rate::Five | Rate::Eleven => Piece {
-            ear,
-            bad,
-            odd: None,
-        },
+        match self.rate {
+            Rate::One => {
+                let looked = look(row, self.at, h, ear.last);
+                ear.last = looked.last;
+                Piece {
+                    ear,
+                    bad,
+                    odd: looked.odd,
+                }
+            }
+            Rate::Two | Rate::Five | Rate::Eleven => Piece {
+                ear,
+                bad,
+                odd: None,
+            },
+        }
     }
 }

@@ -3,34 +3,25 @@ ghost use Rattle.std.specs.Prelude.{◌≡◌, ◌+◌, ◌-◌, ◌*◌, ◌/�
 ghost use Rattle.rules_rates.specs.Rates.{octet_chips};
 ghost use Rattle.receive_parts.specs.Pieces.{WholeCount, Joins, Takes};
 
-use super::{Piece, Taking, heard};
+use super::heard::Start;
+use super::{Piece, Taking};
 use rules_rates::Rate;
 use rules_receiving::Ear;
 
 // Chips behind the h that are held, up to the end of their octet: it is heard if it is whole then.
-fn join(
-    rate: Rate,
-    at: usize,
-    symbol: usize,
-    ear: Ear,
-    h: usize,
-    hold: &mut [u8],
-    piece: &[u8],
-    octet: &mut [u8],
-) -> Piece
-    requires { (h + length piece.now ≤ octet_chips rate) × (length octet.old ≡ 1) × (length hold.old ≡ 88)
-        × (at ≤ 900000) × (symbol ≤ 1000000) × (ear.phase < 4) × (ear.last < 4) }
-    ensures answer { Joins rate at symbol ear h hold.old piece.now octet.old result
+fn join(start: Start, h: usize, hold: &mut [u8], piece: &[u8], octet: &mut [u8]) -> Piece
+    requires { (h + length piece.now ≤ octet_chips start.rate) × (length octet.old ≡ 1) × (length hold.old ≡ 88)
+        × (start.at ≤ 900000) × (start.symbol ≤ 1000000) × (start.ear.phase < 4) × (start.ear.last < 4) }
+    ensures answer { Joins start.rate start.at start.symbol start.ear h hold.old piece.now octet.old result
         hold.new octet.new }
 {
-    let chips = rate.octet_chips();
     let n = h + piece.len();
     hold[h..n].copy_from_slice(piece);
     let row = &hold[..n];
-    if n == chips {
-        return heard::hear_whole(rate, at, symbol, ear, row, octet);
+    if n == start.rate.octet_chips() {
+        return start.hear_whole(row, octet);
     }
-    heard::hold_part(rate, at, ear, h, row)
+    start.hold_part(h, row)
 }
 
 // How many whole octets are heard straight from so many chips, behind m of n octets and h chips held.
@@ -69,22 +60,19 @@ pub fn take_piece(
     let h = behind % chips;
     let at = from + chips * m;
     let symbol = first + symbols * m;
+    let start = Start {
+        rate,
+        at,
+        symbol,
+        ear,
+    };
     let w = whole_count(rate, m, h, n, rest.len());
     if w == 0 {
         let taken = rest.len().min(chips - h);
-        let piece = join(
-            rate,
-            at,
-            symbol,
-            ear,
-            h,
-            hold,
-            &rest[..taken],
-            &mut out[m..m + 1],
-        );
+        let piece = join(start, h, hold, &rest[..taken], &mut out[m..m + 1]);
         return Taking { piece, taken };
     }
     let taken = chips * w;
-    let piece = heard::hear_whole(rate, at, symbol, ear, &rest[..taken], &mut out[m..m + w]);
+    let piece = start.hear_whole(&rest[..taken], &mut out[m..m + w]);
     Taking { piece, taken }
 }

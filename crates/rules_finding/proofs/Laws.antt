@@ -8,11 +8,11 @@
 --     finding_no_kind, finding_no_offsets, finding_first    1, 18, and the search
 --     finding_comes              what all of it comes to: a refusal or a start, with what is then known
 -- Assumes nothing.
-use Rattle.std.specs.Prelude.{Result, Ok, Err}
 use Rattle.rules_calls.specs.declared.Refusal.{Refusal}
 use mathlib.Core.Path.{◌≡◌, refl, sym, ap, ◌∙◌, subst}
 use mathlib.Core.Bool.{Bool, true, false}
 use mathlib.Core.List.{List}
+use Rattle.std.specs.Prelude.{Result, Ok, Err}
 use Prim.Native.Nat.{ℕ, zero, suc, ◌+◌, ◌-◌, ◌≤◌, ◌<◌}
 use native.Mathlib.Decide.{dec_le}
 use native.Mathlib.Omega.{arith}
@@ -29,16 +29,15 @@ use Rattle.rules_reading.specs.Reading.{front_by, front_of}
 use Rattle.rules_reading.proofs.Places.{some_chips}
 use Rattle.rules_finding.specs.declared.NotFound.{NotFound}
 use Rattle.rules_finding.specs.declared.NotFound.TheVariants.{NoKind, NoOffsets, NoStart}
-use Rattle.rules_finding.specs.declared.Finding.{Finding}
-use Rattle.rules_finding.specs.declared.Finding.TheVariants.{Refused, Start}
-use Rattle.rules_finding.specs.Finding.{is_offsets, start_or, first_start, finding_of}
+use Rattle.rules_finding.specs.declared.Start.{Start}
+use Rattle.rules_finding.specs.Finding.{is_offsets, start_at, start_or, first_start, finding_of}
 
 -- a front that meets one of 8 to 15
 abbrev pub Missed : Result Told Refusal → Type 0
 Missed (Err e) = Unit {0}
 Missed (Ok t) = ⊥
 
-pub missed_or : (at : ℕ) (f : Result Told Refusal) (next : Finding) → Missed f → start_or at f next ≡ next
+pub missed_or : (at : ℕ) (f : Result Told Refusal) (next : Result Start NotFound) → Missed f → start_or at f next ≡ next
 missed_or at (Err e) next h = refl
 missed_or at (Ok t) next h = absurd h
 
@@ -47,7 +46,7 @@ drop_one n xs = let e : 1 + n ≡ suc n = omega arith in drop-drop n 1 xs ∙ ap
 
 module _ (k : Kind) where
   start_here : (at m : ℕ) (rec : List Taken) (t : Told) → front_of k rec ≡ Ok t
-      → first_start k at (suc m) rec ≡ Start at t
+      → first_start k at (suc m) rec ≡ start_at at t
   unfolding first_start
   start_here at m rec t e = rw e
 
@@ -89,9 +88,9 @@ module _ (k : Kind) where
     pub told_there : front_of k (drop i rec) ≡ Ok t
     pub before : AllMissed i rec
 
-  abbrev pub StartIf : ℕ → ℕ → List Taken → Finding → Type 0
-  StartIf at m rec (Refused e) = (e ≡ NoStart) × AllMissed m rec
-  StartIf at m rec (Start offset t) = StartsAt at m rec offset t
+  abbrev pub StartIf : ℕ → ℕ → List Taken → Result Start NotFound → Type 0
+  StartIf at m rec (Err e) = (e ≡ NoStart) × AllMissed m rec
+  StartIf at m rec (Ok s) = StartsAt at m rec s.offset s.told
 
   missed_here : (n : ℕ) (rec : List Taken) → Missed (front_of k rec) → AllMissed n (drop 1 rec) → AllMissed (suc n) rec
   missed_here n rec h g zero l = h
@@ -108,9 +107,10 @@ module _ (k : Kind) where
   start_comes at (suc m) rec =
       by (front_of k rec) refl (first_start k (suc at) m (drop 1 rec)) (start_comes (suc at) m (drop 1 rec))
     where
-      later : (f : Finding) → Missed (front_of k rec) → StartIf (suc at) m (drop 1 rec) f → StartIf at (suc m) rec f
-      later (Refused e) h g = (g.0, missed_here m rec h g.1)
-      later (Start offset t) h g = record {
+      later : (f : Result Start NotFound) → Missed (front_of k rec) → StartIf (suc at) m (drop 1 rec) f
+          → StartIf at (suc m) rec f
+      later (Err e) h g = (g.0, missed_here m rec h g.1)
+      later (Ok s) h g = record {
         i = suc g.i;
         offset_is = let e : suc at + g.i ≡ at + suc g.i = omega arith in g.offset_is ∙ e;
         below = omega (arith, g.below);
@@ -118,7 +118,7 @@ module _ (k : Kind) where
         before = missed_here g.i rec h g.before;
       }
 
-      by : (f : Result Told Refusal) → front_of k rec ≡ f → (next : Finding) → StartIf (suc at) m (drop 1 rec) next
+      by : (f : Result Told Refusal) → front_of k rec ≡ f → (next : Result Start NotFound) → StartIf (suc at) m (drop 1 rec) next
           → StartIf at (suc m) rec (start_or at f next)
       by (Ok t) e next g = record {
         i = 0;
@@ -130,36 +130,36 @@ module _ (k : Kind) where
       by (Err r) e next g = later next (subst Missed (sym e) tt) g
 
   pub start_found_lem : (at m i : ℕ) (rec : List Taken) (t : Told) → i < m → front_of k (drop i rec) ≡ Ok t
-      → AllMissed i rec → first_start k at m rec ≡ Start (at + i) t
+      → AllMissed i rec → first_start k at m rec ≡ start_at (at + i) t
   start_found_lem at m i rec t l e h =
       let n : ℕ = m - i - 1 in
       let s : m ≡ i + suc n = omega arith in
       ap (λ (x : ℕ). first_start k at x rec) s ∙ start_past at i (suc n) rec h ∙ start_here (at + i) n (drop i rec) t e
 
-  pub start_none : (at m : ℕ) (rec : List Taken) → AllMissed m rec → first_start k at m rec ≡ Refused NoStart
+  pub start_none : (at m : ℕ) (rec : List Taken) → AllMissed m rec → first_start k at m rec ≡ Err NoStart
   start_none at m rec h = by (first_start k at m rec) (start_comes at m rec)
     where
-      by : (f : Finding) → StartIf at m rec f → f ≡ Refused NoStart
-      by (Refused e) g = ap Refused g.0
-      by (Start offset t) g = absurd (subst Missed g.told_there (h g.i g.below))
+      by : (f : Result Start NotFound) → StartIf at m rec f → f ≡ Err NoStart
+      by (Err e) g = ap Err g.0
+      by (Ok s) g = absurd (subst Missed g.told_there (h g.i g.below))
 
   -- ---- one search after another
 
-  abbrev pub or_elsewhere : Finding → Finding → Finding
-  or_elsewhere (Refused e) next = next
-  or_elsewhere (Start offset t) next = Start offset t
+  abbrev pub or_elsewhere : Result Start NotFound → Result Start NotFound → Result Start NotFound
+  or_elsewhere (Err e) next = next
+  or_elsewhere (Ok s) next = Ok s
 
   pub start_joined : (at m n : ℕ) (rec : List Taken)
       → first_start k at (m + n) rec
       ≡ or_elsewhere (first_start k at m rec) (first_start k (at + m) n (drop m rec))
   start_joined at m n rec = by (first_start k at m rec) (start_comes at m rec)
     where
-      by : (f : Finding) → StartIf at m rec f
+      by : (f : Result Start NotFound) → StartIf at m rec f
           → first_start k at (m + n) rec ≡ or_elsewhere f (first_start k (at + m) n (drop m rec))
-      by (Refused e) g = start_past at m n rec g.1
-      by (Start offset t) g =
-          start_found_lem at (m + n) g.i rec t (omega (arith, g.below)) g.told_there g.before
-          ∙ ap (λ (x : ℕ). Start x t) (sym g.offset_is)
+      by (Err e) g = start_past at m n rec g.1
+      by (Ok s) g =
+          start_found_lem at (m + n) g.i rec s.told (omega (arith, g.below)) g.told_there g.before
+          ∙ ap (λ (x : ℕ). start_at x s.told) (sym g.offset_is)
 
   pub short_missed : (rec : List Taken) → length rec < front_chips k → Missed (front_of k rec)
   unfolding front_by
@@ -193,12 +193,12 @@ module _ (kind offsets : ℕ) (rec : List Taken) where
   abbrev k' : Kind
   k' = kind_of kind
 
-  pub finding_no_kind : is_kind kind ≡ false → finding_of kind offsets rec ≡ Refused NoKind
+  pub finding_no_kind : is_kind kind ≡ false → finding_of kind offsets rec ≡ Err NoKind
   unfolding finding_of
   finding_no_kind e = rw e
 
   pub finding_no_offsets : is_kind kind ≡ true → is_offsets offsets ≡ false
-      → finding_of kind offsets rec ≡ Refused NoOffsets
+      → finding_of kind offsets rec ≡ Err NoOffsets
   unfolding finding_of
   finding_no_offsets e f = rw (e, f)
 
@@ -207,18 +207,18 @@ module _ (kind offsets : ℕ) (rec : List Taken) where
   unfolding finding_of
   finding_first e f = rw (e, f)
 
-  abbrev pub FindingIf : Finding → Type 0
-  FindingIf (Refused NoKind) = is_kind kind ≡ false
-  FindingIf (Refused NoOffsets) = (is_kind kind ≡ true) × (is_offsets offsets ≡ false)
-  FindingIf (Refused NoStart) = IsSearch kind offsets × AllMissed k' offsets rec
-  FindingIf (Start offset t) = IsSearch kind offsets × StartsAt k' 0 offsets rec offset t
+  abbrev pub FindingIf : Result Start NotFound → Type 0
+  FindingIf (Err NoKind) = is_kind kind ≡ false
+  FindingIf (Err NoOffsets) = (is_kind kind ≡ true) × (is_offsets offsets ≡ false)
+  FindingIf (Err NoStart) = IsSearch kind offsets × AllMissed k' offsets rec
+  FindingIf (Ok s) = IsSearch kind offsets × StartsAt k' 0 offsets rec s.offset s.told
 
   pub finding_comes : FindingIf (finding_of kind offsets rec)
   finding_comes = by (is_kind kind) refl (is_offsets offsets) refl
     where
-      searched : IsSearch kind offsets → (g : Finding) → StartIf k' 0 offsets rec g → FindingIf g
-      searched s (Refused e) h = subst (λ (x : NotFound). FindingIf (Refused x)) (sym h.0) (s, h.1)
-      searched s (Start offset t) h = (s, h)
+      searched : IsSearch kind offsets → (g : Result Start NotFound) → StartIf k' 0 offsets rec g → FindingIf g
+      searched s (Err e) h = subst (λ (x : NotFound). FindingIf (Err x)) (sym h.0) (s, h.1)
+      searched s (Ok t) h = (s, h)
 
       by : (a : Bool) → is_kind kind ≡ a → (b : Bool) → is_offsets offsets ≡ b → FindingIf (finding_of kind offsets rec)
       by false e b f = subst FindingIf (sym (finding_no_kind e)) e

@@ -3,27 +3,27 @@
 
 use rules_calls::Told;
 
-// Why no start is told: 1, 18 and 19. None has a place or a LENGTH.
+// Why no start is told, each with its number in an answer. None has a place or a LENGTH.
 #[derive(Clone, Copy)]
 pub enum NotFound {
-    NoKind,
+    NoKind = 1,
     // promise: the number of offsets to try is 0 or above 4,096
     // rule: 6.4 (18), 6.17
     // code: find_start::find
     // with: is_offsets
-    NoOffsets,
+    NoOffsets = 18,
     // promise: none of the offsets has a front that a read accepts
     // rule: 6.4 (19), 6.17
     // code: find_start::search
     // with: first_start
-    NoStart,
+    NoStart = 19,
 }
 
-// What a search for a front comes to: the smallest offset from which one is told, and what its header tells.
+// What a search for a front finds: the smallest offset from which one is told, and what its header tells.
 #[derive(Clone, Copy)]
-pub enum Finding {
-    Refused(NotFound),
-    Start { offset: usize, told: Told },
+pub struct Start {
+    pub offset: usize,
+    pub told: Told,
 }
 
 // The answer: number 0, the offset and what the header there tells, or a refusal's number.

@@ -23,7 +23,7 @@ fn list_payloads(first: &[u8], n: usize, second: &[u8], m: usize, row: &mut [u64
     ensures row { row.new ≡ laid (length row.old)
         (differences (take n first.now) (take m second.now)) }
 {
-    compare_rows::list(&first[0..n], &second[0..m], row)
+    compare_rows::list(&first[..n], &second[..m], row)
 }
 
 // Both records, the two lists, and both payloads. Where one recording is refused, the payloads are compared as empty.

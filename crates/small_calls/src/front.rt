@@ -72,7 +72,7 @@ pub fn part(coming: Coming, chips: &[u8]) -> &[u8]
     let at = coming.at as usize;
     let count = coming.count as usize;
     if chips.len() < at || chips.len() - at < count {
-        return &chips[0..0];
+        return &chips[..0];
     }
     &chips[at..at + count]
 }

@@ -38,14 +38,14 @@ seek-requires c =
           (ap (λ (n : ℕ). n % 256) c.sfd_of-sfd.ensures.answer) (ap (λ (n : ℕ). n / 256) c.sfd_of-sfd.ensures.answer),
     )
 
-pub returns-in-Start : goal.returns-in-Start
-returns-in-Start c =
+pub returns-in-Ok : goal.returns-in-Ok
+returns-in-Ok c =
     let a = c.args in
     record {
       answer = window_hit a.kind (hard_recording a.chips.now) _ _ _ _ _ c.seek.ensures.answer c.loop-at.invariant.2
           (within a.kind (length a.chips.now) _ _ _ _ c.loop-at-test.true c.preamble_chips-from.ensures.answer
           c.min-count.ensures c.tries-tried.ensures.answer.1)
-          c.tries-tried.ensures.answer.0 _ _ c.in-Start.is;
+          c.tries-tried.ensures.answer.0 _ c.in-Ok.is;
     }
 
 pub loop-at-preserved : goal.loop-at-preserved

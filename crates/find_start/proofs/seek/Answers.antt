@@ -15,12 +15,12 @@ returns-then-not-any c =
           (λ j l. c.requires.2 j l (c.any.ensures.answer c.if-not-any.true j (omega (arith, c.requires.0))));
     }
 
-pub returns-in-Start : goal.returns-in-Start
-returns-in-Start c =
+pub returns-in-Ok : goal.returns-in-Ok
+returns-in-Ok c =
     let a = c.args in
     record {
       answer = seek_hit a.kind (hard_recording a.chips.now) a.at c.loop-j.j a.count c.loop-j-test.true c.loop-j.invariant
-          _ _ _ c.in-Start.is c.try_at.ensures.answer;
+          _ _ c.in-Ok.is c.try_at.ensures.answer;
     }
 
 pub returns : goal.returns

@@ -4,26 +4,26 @@ use Rattle.receive_parts.proofs.Looks.{chips_most}
 use Rattle.receive_parts.proofs.Joined.{hold_joined, row_joined, joined_whole, joined_part}
 use Rattle.receive_parts.proofs.taken.join.Goals as goal
 
-pub returns-then-n-chips : goal.returns-then-n-chips
-returns-then-n-chips c =
+pub returns-then-n-octet_chips : goal.returns-then-n-octet_chips
+returns-then-n-octet_chips c =
     let a = c.args in
-    let r : a.h + length a.piece.now ≤ length a.hold.now = omega (arith, c.requires.0, c.requires.2, chips_most a.rate) in
+    let r : a.h + length a.piece.now ≤ length a.hold.now = omega (arith, c.requires.0, c.requires.2, chips_most a.start.rate) in
     let y = c.copy_from_slice.ensures.after in
     record {
-      answer = joined_whole a.rate a.at a.symbol a.ear a.h a.hold.now a.piece.now a.octet.now
+      answer = joined_whole a.start.rate a.start.at a.start.symbol a.start.ear a.h a.hold.now a.piece.now a.octet.now
           c.hear_whole.result _ _ _ (hold_joined a.hold.now a.piece.now _ a.h _ refl r y)
           (row_joined a.hold.now a.piece.now _ a.h _ refl r y)
-          (c.if-n-chips.true ∙ c.octet_chips-chips.ensures.answer) _ c.requires.1 c.hear_whole.ensures.answer;
+          (c.if-n-octet_chips.true ∙ c.octet_chips.ensures.answer) _ c.requires.1 c.hear_whole.ensures.answer;
     }
 
 pub returns : goal.returns
 returns c =
     let a = c.args in
-    let r : a.h + length a.piece.now ≤ length a.hold.now = omega (arith, c.requires.0, c.requires.2, chips_most a.rate) in
+    let r : a.h + length a.piece.now ≤ length a.hold.now = omega (arith, c.requires.0, c.requires.2, chips_most a.start.rate) in
     let y = c.copy_from_slice.ensures.after in
     record {
-      answer = joined_part a.rate a.at a.symbol a.ear a.h a.hold.now a.piece.now a.octet.now
+      answer = joined_part a.start.rate a.start.at a.start.symbol a.start.ear a.h a.hold.now a.piece.now a.octet.now
           c.hold_part.result _ _ _ (hold_joined a.hold.now a.piece.now _ a.h _ refl r y)
           (row_joined a.hold.now a.piece.now _ a.h _ refl r y)
-          (λ z. c.if-n-chips.false (z ∙ sym c.octet_chips-chips.ensures.answer)) refl c.hold_part.ensures.answer;
+          (λ z. c.if-n-octet_chips.false (z ∙ sym c.octet_chips.ensures.answer)) refl c.hold_part.ensures.answer;
     }
