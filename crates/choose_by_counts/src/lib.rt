@@ -9,36 +9,27 @@ ghost use Rattle.choose_axes.specs.Axes.{AllSoft};
 ghost use Rattle.rules_choosing.specs.Scores.{ChosenAs};
 
 use choose_axes::Axis;
+use choose_words::Choice;
 use rules_chips::Chip;
 use rules_rates::Rate;
 
-mod barker;
-mod five;
-
-// The number of the word decided, and its lead in counts.
-#[derive(Clone, Copy)]
-pub struct Choice {
-    pub number: u8,
-    pub lead: u32,
-}
-
-// The phase that a Barker symbol is decided as, at 1 and at 2 Mbit/s, and its lead.
-pub fn decide_barker(chips: [Chip; 11]) -> Choice
+// The phase that a Barker symbol is decided as, at 1 and at 2 Mbit/s, and its lead in counts.
+pub fn decide_barker(chips: [Chip; 11]) -> Choice<u32>
     requires { AllSoft 11 chips }
     ensures answer { ChosenAs Rate.One (map counts_of chips) result.number result.lead }
 {
-    barker::decide(
+    choose_words::barker(
         choose_axes::soft_counts(chips, Axis::I),
         choose_axes::soft_counts(chips, Axis::Q),
     )
 }
 
-// The word that a symbol of 5.5 Mbit/s is decided as, and its lead.
-pub fn decide_five(chips: [Chip; 8]) -> Choice
+// The word that a symbol of 5.5 Mbit/s is decided as, and its lead in counts.
+pub fn decide_five(chips: [Chip; 8]) -> Choice<u32>
     requires { AllSoft 8 chips }
     ensures answer { ChosenAs Rate.Five (map counts_of chips) result.number result.lead }
 {
-    five::decide(
+    choose_words::five(
         choose_axes::soft_counts(chips, Axis::I),
         choose_axes::soft_counts(chips, Axis::Q),
     )

@@ -13,7 +13,6 @@ ghost use Rattle.choose_sums.specs.Sums.{every_row};
 ghost use Rattle.choose_recorded.specs.Recorded.{DecidedAt, LeadsAt, Put};
 ghost use Rattle.choose_bytes.specs.Rows.{barker_at, five_at};
 
-use choose_by_bytes::Choice;
 use rules_rates::Rate;
 
 // A byte as a wider number.
@@ -47,7 +46,7 @@ fn sixteen_barkers(row: &[i8], l: usize, numbers: &mut [u8; 64], raw: &mut [u16;
         raw.new 16 }
 {
     for s in 0..16 {
-        let c = choose_by_bytes::barker(symbol(row, s), symbol(row, 16 + s));
+        let c = choose_words::barker(symbol(row, s), symbol(row, 16 + s));
         numbers[l + s] = c.number;
         raw[l + s] = c.lead;
     }
@@ -63,7 +62,7 @@ fn sixteen_fives(row: &[i8], l: usize, numbers: &mut [u8; 64], raw: &mut [u16; 6
         raw.new 16 }
 {
     for s in 0..16 {
-        let c = choose_by_bytes::five(symbol(row, s), symbol(row, 16 + s));
+        let c = choose_words::five(symbol(row, s), symbol(row, 16 + s));
         numbers[l + s] = c.number;
         raw[l + s] = c.lead;
     }

@@ -10,7 +10,6 @@ ghost use Rattle.choose_recorded.specs.Columns.{ColumnSet, Columns, hard_column}
 ghost use Rattle.choose_recorded.specs.Recorded.{hard_part, AllUsable, DecidedAt, LeadsAt};
 
 use choose_axes::Axis;
-use choose_by_units::Choice;
 use rules_chips::Chip;
 use rules_rates::Rate;
 

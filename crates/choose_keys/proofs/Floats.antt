@@ -63,25 +63,25 @@ pub may_float : (x : ℕ) → x < 8388608 → T (in_float binary32 (pos x))
 unfolding in_float
 may_float x h = le→leb x 16777216 (omega arith)
 
-back : (x : ℕ) → x < 8388608 → T (in_signed binary32 31 (key_float x)) × (to_signed 31 (key_float x) ≡ pos x)
+pub back : (x : ℕ) → x < 8388608 → T (in_signed binary32 31 (key_float x)) × (to_signed 31 (key_float x) ≡ pos x)
 back x h = positive_back binary32 31 x (may_float x h) (omega arith)
 
 -- ---- the larger and the smaller of two
-larger_is : (x y : ℕ) → x < 8388608 → y < 8388608 → larger_float (key_float x) (key_float y) ≡ key_float (bigger x y)
+pub larger_is : (x y : ℕ) → x < 8388608 → y < 8388608 → larger_float (key_float x) (key_float y) ≡ key_float (bigger x y)
 larger_is x y h g = (λ i. cond (order x y h g i) (key_float y) (key_float x)) ∙ by (ltb x y)
   where
     by : (t : Bool) → cond t (key_float y) (key_float x) ≡ key_float (cond t y x)
     by true = refl
     by false = refl
 
-smaller_is : (x y : ℕ) → x < 8388608 → y < 8388608 → smaller_float (key_float x) (key_float y) ≡ key_float (lesser x y)
+pub smaller_is : (x y : ℕ) → x < 8388608 → y < 8388608 → smaller_float (key_float x) (key_float y) ≡ key_float (lesser x y)
 smaller_is x y h g = (λ i. cond (order x y h g i) (key_float x) (key_float y)) ∙ by (ltb x y)
   where
     by : (t : Bool) → cond t (key_float x) (key_float y) ≡ key_float (cond t x y)
     by true = refl
     by false = refl
 
-either : (n x y : ℕ) → x < n → y < n → (bigger x y < n) × (lesser x y < n)
+pub either : (n x y : ℕ) → x < n → y < n → (bigger x y < n) × (lesser x y < n)
 either n x y h g = by (ltb x y)
   where
     by : (t : Bool) → (cond t y x < n) × (cond t x y < n)

@@ -9,7 +9,6 @@ ghost use Rattle.choose_recorded.specs.Columns.{ColumnSet, Columns, soft_column}
 ghost use Rattle.choose_recorded.specs.Recorded.{soft_part, AllUsable, DecidedAt, LeadsAt};
 
 use choose_axes::Axis;
-use choose_by_counts::Choice;
 use rules_chips::{Chip, Sample};
 use rules_rates::Rate;
 

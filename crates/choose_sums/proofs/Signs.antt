@@ -3,7 +3,7 @@
 use mathlib.Core.Path.{◌≡◌, refl, sym, ap, ◌∙◌, subst}
 use mathlib.Core.Bool.{Bool, true, false, not}
 use mathlib.Core.List.{List, [], ◌∷◌, map}
-use Prim.Native.Nat.{ℕ, zero, suc, ◌+◌, ◌*◌, ◌^◌, ◌≤◌, ◌<◌}
+use Prim.Native.Nat.{ℕ, zero, suc, ◌+◌, ◌*◌, ◌≤◌, ◌<◌}
 use native.Mathlib.Numerals.{add-one}
 use native.Mathlib.Omega.{arith}
 use lib.Dec.{T, lit<, lit≤, eqb}
@@ -12,11 +12,8 @@ use borrow.Author.Tests.{eq-eqb, ne_eqb}
 use lib.ListN.{length, get_or, drop, drop_of_length-le}
 use lib.Seq.{drop-cons}
 use lib.IntN.{ℤ, pos, neg_ℤ, ◌+ℤ◌, ◌-ℤ◌, +ℤ_idl, +ℤ_idr, +ℤ_assoc}
-use mir.Syntax.{Width}
-use mir.Val.{SFits, to_z, of_z, hbits}
-use mir.Facts.{to_z-of_z}
 use Rattle.base.specs.Whole.{Within}
-use Rattle.base.proofs.Whole.{fits_at, within_add, within_neg, within_zero, within_more}
+use Rattle.base.proofs.Whole.{within_add, within_neg, within_zero, within_more}
 use Rattle.base.proofs.Tests.{all_at, implies, implied}
 use Rattle.rules_rates.specs.declared.Rate.TheVariants.{One}
 use Rattle.rules_chips.specs.declared.Counts.{Counts}
@@ -29,7 +26,6 @@ use Rattle.rules_symbols.specs.Choice.{score, term}
 use Rattle.rules_symbols.proofs.Words.{barker_turns}
 use Rattle.rules_choosing.specs.Scores.{RowWithin, score_at, ChosenAs}
 use Rattle.choose_sums.specs.Sums.{by_sign, signed, by_signs, as_chip}
-use Rattle.base.proofs.Adding.{reads_of}
 use Rattle.rules_choosing.proofs.Chosen.{chosen_alike}
 use Rattle.rules_choosing.proofs.HalfTurns.{barker_half}
 use Rattle.choose_sums.proofs.Four.{score_chip}
@@ -67,19 +63,22 @@ module _ (cs : List Counts) where
   pub sums_chosen : {w t : ℕ} → ChosenAs One (as_chip (sum_on I) (sum_on Q)) w t → ChosenAs One cs w t
   sums_chosen = chosen_alike One (as_chip (sum_on I) (sum_on Q)) cs sums_score
 
--- ---- the loop: the sum so far with that of the rest is the whole. The row's numbers are from -b to b, and the sum is
--- kept in w
-pub record Summed (w : Width) (b : ℕ) (zs : List ℤ) (sum k : ℕ) : Type 0 where
+-- ---- the loop: the sum so far with that of the rest is the whole. The row's numbers are from -b to b
+pub record Summed (b : ℕ) (zs : List ℤ) (sum : ℤ) (k : ℕ) : Type 0 where
   pub within : k ≤ 11
-  pub done : to_z w sum +ℤ signed (drop k barker_signs) (drop k zs) ≡ by_signs zs
-  pub bound : Within (b * k) (to_z w sum)
+  pub done : sum +ℤ signed (drop k barker_signs) (drop k zs) ≡ by_signs zs
+  pub bound : Within (b * k) sum
 
-pub summed_none : (w : Width) (b : ℕ) (zs : List ℤ) → to_z w 0 ≡ pos 0 → Summed w b zs 0 0
-summed_none w b zs e = record {
+pub summed_none : (b : ℕ) (zs : List ℤ) {sum : ℤ} → sum ≡ pos 0 → Summed b zs sum 0
+summed_none b zs e = record {
   within = lit≤ tt;
   done = ap (λ (z : ℤ). z +ℤ by_signs zs) e ∙ +ℤ_idl (by_signs zs);
   bound = rw e (within_zero _);
 }
+
+-- one number more has room where eleven have
+pub sum_room : (b k : ℕ) → k < 11 → b * k + b ≤ b * 11
+sum_room b k h = omega (arith, mul-le-mul_left b h, mul-suc b k)
 
 -- the signs as the code has them, no turn for a plus
 abbrev is_plus : ℕ → Bool
@@ -106,16 +105,10 @@ sign_within : {b : ℕ} (s : Bool) {z : ℤ} → Within b z → Within b (by_sig
 sign_within true w = w
 sign_within false w = within_neg w
 
-module _ {w : Width} {b : ℕ} (room : b * 11 < 2 ^ hbits w) {zs : List ℤ} {sum k : ℕ} (inv : Summed w b zs sum k)
-    (s : RowWithin b zs) (l : length zs ≡ 11) (h : k < 11) where
+module _ {b : ℕ} {zs : List ℤ} {sum : ℤ} {k : ℕ} (inv : Summed b zs sum k) (s : RowWithin b zs)
+    (l : length zs ≡ 11) (h : k < 11) where
   abbrev z : ℤ
   z = get_or zs k (pos 0)
-
-  next : Within (b * suc k) (to_z w sum +ℤ by_sign (sign k) z)
-  next = rw (mul-suc b k) (within_add inv.bound (sign_within (sign k) (s.at k)))
-
-  few : b * suc k < 2 ^ hbits w
-  few = omega (arith, mul-le-mul_left b h)
 
   rest : signed (drop k barker_signs) (drop k zs)
       ≡ by_sign (sign k) z +ℤ signed (drop (suc k) barker_signs) (drop (suc k) zs)
@@ -123,54 +116,35 @@ module _ {w : Width} {b : ℕ} (room : b * 11 < 2 ^ hbits w) {zs : List ℤ} {su
   rest = λ i. signed (drop-cons barker_signs k true h i) (drop-cons zs k (pos 0) (subst (λ (n : ℕ). k < n) (sym l) h) i)
 
   -- however the next sum is made
-  module _ (v : ℤ) (made : v ≡ to_z w sum +ℤ by_sign (sign k) z) where
-    made_fits : SFits w v
-    made_fits = rw made (fits_at w next few)
+  module _ {v : ℤ} (made : v ≡ sum +ℤ by_sign (sign k) z) where
+    made_sum : Summed b zs v (k + 1)
+    made_sum = record {
+      within = omega arith;
+      done = rw (add-one k, made)
+          (+ℤ_assoc sum (by_sign (sign k) z) _ ∙ ap (λ (y : ℤ). sum +ℤ y) (sym rest) ∙ inv.done);
+      bound = rw (add-one k, made, mul-suc b k) (within_add inv.bound (sign_within (sign k) (s.at k)));
+    }
 
-    made_sum : Summed w b zs (of_z w v) (k + 1)
-    made_sum =
-        let read : to_z w (of_z w v) ≡ to_z w sum +ℤ by_sign (sign k) z = to_z-of_z made_fits ∙ made in
-        record {
-          within = omega arith;
-          done = rw (add-one k, read)
-              (+ℤ_assoc (to_z w sum) (by_sign (sign k) z) _ ∙ ap (λ (y : ℤ). to_z w sum +ℤ y) (sym rest) ∙ inv.done);
-          bound = rw (add-one k, read) next;
-        }
+  pub plus_sum : get_or barker_turns k 0 ≡ 0 → {v : ℤ} → v ≡ sum +ℤ z → Summed b zs v (k + 1)
+  plus_sum e is =
+      made_sum
+      (is
+      ∙ ap (λ (y : ℤ). sum +ℤ y)
+      (sym (by_plus (sign k) z (implied (is_plus k) _ (pluses k h) (subst T (sym (eq-eqb _ _ e)) tt)))))
 
-  is : to_z w (of_z w z) ≡ z
-  is = (reads_of {w = w} (omega (arith, mul-le-mul_left b h)) (s.at k)).is
+  pub minus_sum : (get_or barker_turns k 0 ≡ 0 → ⊥) → {v : ℤ} → v ≡ sum -ℤ z → Summed b zs v (k + 1)
+  minus_sum ne is =
+      made_sum
+      (is
+      ∙ ap (λ (y : ℤ). sum +ℤ y)
+      (sym (by_minus (sign k) z
+      (implied (not (is_plus k)) _ (minuses k h) (subst (λ (b : Bool). T (not b)) (sym (ne_eqb _ _ ne)) tt)))))
 
-  module _ (e : get_or barker_turns k 0 ≡ 0) where
-    plus_is : to_z w sum +ℤ to_z w (of_z w z) ≡ to_z w sum +ℤ by_sign (sign k) z
-    plus_is =
-        ap (λ (y : ℤ). to_z w sum +ℤ y)
-        (is ∙ sym (by_plus (sign k) z (implied (is_plus k) _ (pluses k h) (subst T (sym (eq-eqb _ _ e)) tt))))
-
-    pub plus_fits : SFits w (to_z w sum +ℤ to_z w (of_z w z))
-    plus_fits = made_fits _ plus_is
-
-    pub plus_sum : Summed w b zs (of_z w (to_z w sum +ℤ to_z w (of_z w z))) (k + 1)
-    plus_sum = made_sum _ plus_is
-
-  module _ (ne : get_or barker_turns k 0 ≡ 0 → ⊥) where
-    minus_is : to_z w sum -ℤ to_z w (of_z w z) ≡ to_z w sum +ℤ by_sign (sign k) z
-    minus_is =
-        ap (λ (y : ℤ). to_z w sum -ℤ y) is
-        ∙ ap (λ (y : ℤ). to_z w sum +ℤ y)
-        (sym (by_minus (sign k) z
-        (implied (not (is_plus k)) _ (minuses k h) (subst (λ (b : Bool). T (not b)) (sym (ne_eqb _ _ ne)) tt))))
-
-    pub minus_fits : SFits w (to_z w sum -ℤ to_z w (of_z w z))
-    minus_fits = made_fits _ minus_is
-
-    pub minus_sum : Summed w b zs (of_z w (to_z w sum -ℤ to_z w (of_z w z))) (k + 1)
-    minus_sum = made_sum _ minus_is
-
-pub summed_all : {w : Width} {b : ℕ} {zs : List ℤ} {sum k : ℕ} → Summed w b zs sum k → 11 ≤ k → to_z w sum ≡ by_signs zs
+pub summed_all : {b : ℕ} {zs : List ℤ} {sum : ℤ} {k : ℕ} → Summed b zs sum k → 11 ≤ k → sum ≡ by_signs zs
 unfolding signed
-summed_all {w} {b} {zs} {sum} {k} inv h =
-    sym (+ℤ_idr (to_z w sum))
-    ∙ ap (λ (l : List Bool). to_z w sum +ℤ signed l (drop k zs)) (sym (drop_of_length-le barker_signs h))
+summed_all {b} {zs} {sum} {k} inv h =
+    sym (+ℤ_idr sum)
+    ∙ ap (λ (l : List Bool). sum +ℤ signed l (drop k zs)) (sym (drop_of_length-le barker_signs h))
     ∙ inv.done
 
 -- a sum of eleven is within eleven times the bound

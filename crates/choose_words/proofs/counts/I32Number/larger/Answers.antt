@@ -1,0 +1,18 @@
+use Rattle.std.proofs.Common.{Bool, cond, sym, ap, ◌∙◌}
+use Rattle.choose_keys.specs.Floats.{larger_float}
+use Rattle.choose_keys.proofs.Floats.{larger_is, either}
+use Rattle.choose_words.proofs.counts.I32Number.larger.Goals as goal
+
+pub returns-then-a-b : goal.returns-then-a-b
+returns-then-a-b c = λ x y h k. (
+  sym (ap (λ (t : Bool). cond t c.args.b c.args.a) c.if-a-b.true) ∙ (λ i. larger_float (h.0 i) (k.0 i))
+      ∙ larger_is x y h.1 k.1,
+  (either 8388608 x y h.1 k.1).0,
+)
+
+pub returns-else-a-b : goal.returns-else-a-b
+returns-else-a-b c = λ x y h k. (
+  sym (ap (λ (t : Bool). cond t c.args.b c.args.a) c.if-a-b.false) ∙ (λ i. larger_float (h.0 i) (k.0 i))
+      ∙ larger_is x y h.1 k.1,
+  (either 8388608 x y h.1 k.1).0,
+)
