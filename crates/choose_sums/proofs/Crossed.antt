@@ -1,24 +1,21 @@
--- The sums that give the eight scores of 5.5 Mbit/s, at every width. s is the row whose chips 1, 3, 5, 7 are taken,
--- t the one whose chips 0, 2, 4, 6 are: I and Q for the first four words, Q and I for the others.
---     Sums, sums      what the code adds fits, and comes to four sums of eight chips
+-- The sums that give the eight scores of 5.5 Mbit/s. s is the row whose chips 1, 3, 5, 7 are taken, t the one whose
+-- chips 0, 2, 4, 6 are: I and Q for the first four words, Q and I for the others.
+--     sums            what the code adds comes to four sums of eight chips
 --     eight_scores    of I with Q and of Q with I these are the scores of the first eight allowed words
 -- Assumes nothing.
 use mathlib.Core.Path.{◌≡◌, refl, ap, ◌∙◌}
 use mathlib.Core.List.{List, [], ◌∷◌}
-use Prim.Native.Nat.{ℕ, ◌+◌, ◌*◌, ◌^◌, ◌<◌}
+use Prim.Native.Nat.{ℕ}
 use native.Mathlib.Omega.{arith}
 use lib.ListN.{get_or}
 use lib.IntN.{ℤ, pos, neg_ℤ, ◌+ℤ◌, ◌-ℤ◌, neg_ℤ-+ℤ, neg_ℤ-neg_ℤ}
-use mir.Syntax.{Width}
-use mir.Val.{SFits, to_z, of_z, hbits}
 use Rattle.base.proofs.Whole.{add, same, up_pos, dn_pos}
 use Rattle.base.specs.Tables.{tabulate}
 use Rattle.rules_rates.specs.declared.Rate.TheVariants.{Five}
 use Rattle.rules_symbols.specs.Words.{cck_word}
 use Rattle.rules_symbols.specs.Choice.{score}
-use Rattle.rules_choosing.specs.Scores.{RowWithin, score_at, number5}
+use Rattle.rules_choosing.specs.Scores.{score_at, number5}
 use Rattle.choose_sums.specs.Sums.{rows, crossed}
-use Rattle.base.proofs.Adding.{Reads, reads_of, reads_fits, reads_add, less_fits, reads_less}
 
 -- ---- sums of two, four and eight
 sum8 : (a b c d e f g h : ℤ) → ((f +ℤ h) +ℤ (e +ℤ g)) +ℤ ((b +ℤ d) +ℤ (a +ℤ c))

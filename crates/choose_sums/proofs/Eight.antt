@@ -5,7 +5,7 @@ use mathlib.Core.List.{List}
 use Prim.Native.Nat.{ℕ, ◌+◌, ◌*◌, ◌-◌, ◌/◌, ◌%◌, ◌<◌}
 use native.Mathlib.Omega.{arith}
 use lib.ListN.{get_or}
-use lib.IntN.{ℤ, pos, neg_ℤ, nat_abs}
+use lib.IntN.{ℤ, pos, neg_ℤ}
 use Rattle.base.specs.Whole.{Within}
 use Rattle.base.specs.Tables.{tabulate}
 use Rattle.base.proofs.Tables.{get_or_tabulate, tabulate_all}
@@ -15,7 +15,7 @@ use Rattle.rules_chips.specs.declared.Counts.{Counts}
 use Rattle.rules_chips.specs.Chips.{pair, nothing}
 use Rattle.rules_chips.specs.Bounds.{Bounded}
 use Rattle.rules_choosing.specs.Scores.{number5, score_at, AllBounded, RowWithin, ChosenAs}
-use Rattle.rules_choosing.specs.Keys.{TwoLargest, HoldsTwo}
+use Rattle.rules_choosing.specs.Keys.{TwoLargest}
 use Rattle.choose_sums.specs.Sums.{rows, key_at}
 use Rattle.rules_choosing.proofs.Sixteen.{chosen_place}
 use Rattle.rules_choosing.proofs.HalfTurns.{five_half, cck_within}
@@ -40,11 +40,6 @@ module _ (cs : List Counts) (h : List ℤ) (e : h ≡ tabulate (λ k. score_at F
   eight_by {x} {y} t =
       let r = ranked 8 f (key_at h) (λ j l. better 8 f j (get_or h j (pos 0)) l (sym (eight_is j l)) (opposite j l)) t in
       chosen_place cs (15 - x % 16) r.second (x / 16) (y / 16) r.best r.next r.score r.score_next
-
-  -- the same by whole numbers that hold them
-  pub eight_held : {u v : ℤ} → HoldsTwo (key_at h) 0 8 u v
-      → ChosenAs Five cs (number5 (15 - nat_abs u % 16)) (nat_abs u / 16 - nat_abs v / 16)
-  eight_held t = rw (t.is_x, t.is_y) (eight_by t.two)
 
 -- eight scores of small counts are small
 pub eight_within : (b : ℕ) (i q h : List ℤ) → h ≡ tabulate (λ k. score_at Five (rows i q) (number5 k)) 8 → RowWithin b i

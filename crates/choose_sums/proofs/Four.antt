@@ -3,13 +3,13 @@
 use mathlib.Core.Path.{◌≡◌}
 use Prim.Native.Nat.{ℕ, zero, suc, ◌-◌, ◌/◌, ◌%◌, ◌<◌}
 use native.Mathlib.Omega.{arith}
-use lib.IntN.{ℤ, neg_ℤ, nat_abs, +ℤ_idr}
+use lib.IntN.{ℤ, neg_ℤ, +ℤ_idr}
 use Rattle.rules_rates.specs.declared.Rate.TheVariants.{One}
 use Rattle.rules_symbols.specs.Words.{barker_word}
 use Rattle.rules_symbols.specs.Choice.{score, term}
 use Rattle.rules_chips.specs.Chips.{pair}
 use Rattle.rules_choosing.specs.Scores.{score_at, ChosenAs}
-use Rattle.rules_choosing.specs.Keys.{key_of, TwoLargest, HoldsTwo}
+use Rattle.rules_choosing.specs.Keys.{key_of, TwoLargest}
 use Rattle.choose_sums.specs.Sums.{as_chip}
 use Rattle.rules_choosing.proofs.KeyLaws.{Better, better, ranked}
 use Rattle.rules_choosing.proofs.Chosen.{chosen_by}
@@ -37,8 +37,3 @@ module _ (i q : ℤ) where
   phase_by {x} {y} t =
       let r = ranked 2 (score_at One (as_chip i q)) sum_key keys t in
       chosen_by One (as_chip i q) (3 - x % 4) r.second (x / 4) (y / 4) r.best r.next r.score r.score_next
-
-  -- the same by whole numbers that hold them
-  pub phase_held : {f s : ℤ} → HoldsTwo sum_key 0 2 f s
-      → ChosenAs One (as_chip i q) (3 - nat_abs f % 4) (nat_abs f / 4 - nat_abs s / 4)
-  phase_held t = rw (t.is_x, t.is_y) (phase_by t.two)

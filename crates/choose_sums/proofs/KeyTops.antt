@@ -1,34 +1,16 @@
 -- The two largest of some keys: of two keys, and of two stretches that meet, for any number of keys.
 -- Assumes nothing.
-use mathlib.Core.Path.{◌≡◌, refl, sym, ◌∙◌, subst}
+use mathlib.Core.Path.{◌≡◌, refl, sym, subst}
 use mathlib.Core.Bool.{Bool, true, false, not, cond}
 use mathlib.Core.Logic.{◌⊎◌, inl, inr}
-use mathlib.Core.List.{List}
-use Prim.Native.Nat.{ℕ, suc, ◌/◌, ◌^◌, ◌≤◌, ◌<◌}
-use native.Mathlib.Nat.{div-mul-le_self, le-div_iff_mul-le}
+use Prim.Native.Nat.{ℕ, suc, ◌≤◌, ◌<◌}
 use native.Mathlib.Decide.{dec_lt}
 use native.Mathlib.Omega.{arith}
 use lib.Dec.{T, ltb, ltb→lt, nltb→le}
-use lib.ListN.{get_or}
-use lib.IntN.{ℤ, pos, nat_abs}
-use lib.Signed.{non_neg}
-use mir.Syntax.{Width}
-use mir.Val.{to_z, of_z, hbits}
-use Rattle.base.specs.Whole.{Within}
-use Rattle.base.proofs.Whole.{small, within_more}
-use Rattle.rules_choosing.specs.Scores.{RowWithin}
-use Rattle.rules_choosing.specs.Keys.{larger, smaller, bigger, lesser, key_of, Largest, TwoLargest, HoldsTwo}
-use Rattle.choose_sums.specs.Sums.{key_at}
+use Rattle.rules_choosing.specs.Keys.{bigger, lesser, Largest, TwoLargest}
 
 pub second_le : {k : ℕ → ℕ} {a b x y : ℕ} → TwoLargest k a b x y → y ≤ x
 second_le t = omega (arith, t.is, t.largest.top t.q t.from t.to)
-
-pub two_is : {k : ℕ → ℕ} {a b x y v w : ℕ} → TwoLargest k a b x y → v ≡ x → w ≡ y → TwoLargest k a b v w
-two_is {k} {a} {b} t d e = rw (d, e) t
-
--- so by any number of words
-pub quotients : (m : ℕ) {x y : ℕ} → 0 < m → y ≤ x → y / m ≤ x / m
-quotients m {x} {y} h l = (le-div_iff_mul-le h).1 (omega (arith, div-mul-le_self y m))
 
 -- ---- two keys
 module _ (k : ℕ → ℕ) (a : ℕ) where
@@ -180,68 +162,3 @@ module _ {k : ℕ → ℕ} {a b c x y z w : ℕ} (t : TwoLargest k a b x y) (s :
       by false f g = from_left (g tt) (bigger y w) (ltb z (bigger y w)) (one (ltb y w))
           (least (ltb y w) (ltb→lt y w) (nltb→le y w)).0 (least (ltb y w) (ltb→lt y w) (nltb→le y w)).1
           (ltb→lt z (bigger y w)) (nltb→le z (bigger y w))
-
--- ---- the whole numbers that hold them
-larger_held : {u v : ℤ} {x y : ℕ} → u ≡ pos x → v ≡ pos y → larger u v ≡ pos (bigger x y)
-larger_held {u} {v} {x} {y} d e = (λ i. larger (d i) (e i)) ∙ by (ltb x y)
-  where
-    by : (t : Bool) → cond t (pos y) (pos x) ≡ pos (cond t y x)
-    by true = refl
-    by false = refl
-
-smaller_held : {u v : ℤ} {x y : ℕ} → u ≡ pos x → v ≡ pos y → smaller u v ≡ pos (lesser x y)
-smaller_held {u} {v} {x} {y} d e = (λ i. smaller (d i) (e i)) ∙ by (ltb x y)
-  where
-    by : (t : Bool) → cond t (pos x) (pos y) ≡ pos (cond t x y)
-    by true = refl
-    by false = refl
-
-pub holds_two : (k : ℕ → ℕ) (a : ℕ) {u v f s : ℤ} → u ≡ pos (k a) → v ≡ pos (k (suc a)) → f ≡ larger u v
-    → s ≡ smaller u v → HoldsTwo k a (suc (suc a)) f s
-holds_two k a eu ev ef es = record {
-  x = bigger (k a) (k (suc a));
-  y = lesser (k a) (k (suc a));
-  is_x = ef ∙ larger_held eu ev;
-  is_y = es ∙ smaller_held eu ev;
-  two = two_of_lem k a;
-}
-
-pub holds_merge : {k : ℕ → ℕ} {a b c : ℕ} {d e d' e' f s : ℤ} → HoldsTwo k a b d e → HoldsTwo k b c d' e'
-    → (f ≡ larger d d') × (s ≡ larger (smaller d d') (larger e e')) → HoldsTwo k a c f s
-holds_merge t u h = record {
-  x = bigger t.x u.x;
-  y = bigger (lesser t.x u.x) (bigger t.y u.y);
-  is_x = h.0 ∙ larger_held t.is_x u.is_x;
-  is_y = h.1 ∙ larger_held (smaller_held t.is_x u.is_x) (larger_held t.is_y u.is_y);
-  two = two_merge t.two u.two;
-}
-
--- none is below 0, and they are in order
-pub holds_order : {k : ℕ → ℕ} {a b : ℕ} {f s : ℤ} → HoldsTwo k a b f s
-    → T (non_neg f) × T (non_neg s) × (nat_abs s ≤ nat_abs f)
-holds_order t = rw (t.is_x, t.is_y) (tt, tt, second_le t.two)
-
--- ---- two neighbours of eight scores, in signed numbers of any width
-module _ (w : Width) {b : ℕ} (room : b < 2 ^ hbits w) (h : List ℤ) (r : RowWithin b h) where
-  abbrev read : ℤ → ℤ
-  read z = to_z w (of_z w z)
-
-  pub score_read : (n : ℕ) → read (get_or h n (pos 0)) ≡ get_or h n (pos 0)
-  score_read n = small w b room _ (r.at n)
-
-  pub within_two : (m j : ℕ) → b ≤ m → Within m (read (get_or h j (pos 0))) × Within m (read (get_or h (suc j) (pos 0)))
-  within_two m j l = (one j, one (suc j))
-    where
-      one : (k : ℕ) → Within m (read (get_or h k (pos 0)))
-      one k = rw (score_read k) (within_more (r.at k) l)
-
-  -- the key of place n by the score as it is read
-  abbrev read_key : ℕ → ℤ
-  read_key n = pos (key_of 8 n (read (get_or h n (pos 0))))
-
-  pub holds_keys : (j : ℕ) {f s : ℤ} → (f ≡ larger (read_key j) (read_key (suc j)))
-      × (s ≡ smaller (read_key j) (read_key (suc j))) → HoldsTwo (key_at h) j (suc (suc j)) f s
-  holds_keys j e = holds_two (key_at h) j (key j) (key (suc j)) e.0 e.1
-    where
-      key : (n : ℕ) → read_key n ≡ pos (key_at h n)
-      key n = λ i. pos (key_of 8 n (score_read n i))

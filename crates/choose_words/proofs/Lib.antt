@@ -1,1 +1,2 @@
+pub mod Floats
 pub mod Numbers

@@ -1,8 +1,7 @@
 -- The two largest of some keys, in whatever numbers hold them. Definitions only. Assumes nothing.
 -- working notion: of the code that chooses words; no promise needs it
-use Rattle.std.specs.Prelude.{◌≡◌, ℕ, ◌<◌, Float}
+use Rattle.std.specs.Prelude.{ℕ}
 use Rattle.rules_choosing.specs.Keys.{TwoLargest}
-use Rattle.choose_keys.specs.Floats.{key_float}
 
 -- first and second hold the two largest of the keys from a to before b
 pub record HeldTwo {K : Type 0} (holds : K → ℕ → Type 0) (k : ℕ → ℕ) (a b : ℕ) (first second : K) : Type 0 where
@@ -11,7 +10,3 @@ pub record HeldTwo {K : Type 0} (holds : K → ℕ → Type 0) (k : ℕ → ℕ)
   pub is_x : holds first x
   pub is_y : holds second y
   pub two : TwoLargest k a b x y
-
--- an f32 holds a key: all such are exact
-abbrev pub holds_float : Float → ℕ → Type 0
-holds_float v x = (v ≡ key_float x) × (x < 8388608)

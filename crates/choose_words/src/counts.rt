@@ -4,7 +4,7 @@ ghost use Rattle.std.specs.Prelude.{◌≡◌, ℕ};
 ghost use Rattle.std.proofs.Common.{w32};
 ghost use lib.Dec.{lit<};
 ghost use Rattle.base.proofs.Whole.{fits_at};
-ghost use Rattle.choose_words.specs.Held.{holds_float};
+ghost use Rattle.choose_words.specs.Floats.{holds_float};
 
 use crate::Number;
 

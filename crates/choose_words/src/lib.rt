@@ -1,6 +1,11 @@
 // The choice of a word from a symbol's chips, I and Q apart, at 1, 2 and 5.5 Mbit/s, once for the numbers in which
 // every recorder tells its chips: the largest score wins, among equals the smallest number, and its lead over the best
 // of the others is told. Each public function is called from one loop over symbols, in which its arrays dissolve.
+//
+// Keys: of 4 w words, numbers n and n + 2 w opposite, a score s and a number n make the key 4 w s + (4 w - 1 - n): the
+// largest key is the largest score and, among equals, the smallest number. Of two opposite words only the better one
+// can win, so half as many keys give the number. The other one's score is not above 0, so the second largest of these
+// keys is that of the best other word, and gives the lead.
 #![tactic(auto)]
 
 ghost use Rattle.std.specs.Prelude.{◌≡◌, ◌+◌, ◌*◌, ◌-◌, ◌/◌, ◌%◌, ◌<◌, ◌≤◌, ℕ, ℤ, pos, ◌+ℤ◌, ◌-ℤ◌, map};
@@ -194,6 +199,14 @@ pub fn barker<T: Number>(i: [T; 11], q: [T; 11]) -> Choice<T::Lead>
     choose(by_signs(i), by_signs(q))
 }
 
+// The number of the k-th allowed word.
+fn allowed_number(k: u8) -> u8
+    requires { k < 16 }
+    ensures { result ≡ number5 k }
+{
+    64 * (k / 4) + 16 * (2 * (k / 2 % 2) + 1) + 2 * (k % 2)
+}
+
 // The choice of a word of 5.5 Mbit/s by eight chips, I and Q apart.
 pub fn five<T: Number>(i: [T; 8], q: [T; 8]) -> Choice<T::Lead>
     requires { RowWithin T.most (map T.whole i) × RowWithin T.most (map T.whole q) }
@@ -201,7 +214,7 @@ pub fn five<T: Number>(i: [T; 8], q: [T; 8]) -> Choice<T::Lead>
 {
     let top = two_largest(halves(i, q));
     Choice {
-        number: choose_keys::number(T::number_of(4, top.first)),
+        number: allowed_number(T::number_of(4, top.first)),
         lead: T::lead_of(4, top.first, top.second),
     }
 }

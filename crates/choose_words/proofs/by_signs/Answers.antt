@@ -1,4 +1,4 @@
-use Rattle.std.proofs.Common.{◌≡◌, ◌<◌, map, length, get_or, refl, ap, ◌∙◌, ℤ, pos, ◌+ℤ◌, ◌-ℤ◌, arith, rules}
+use Rattle.std.proofs.Common.{◌≡◌, map, length, refl, ap, ◌∙◌, ℤ, ◌+ℤ◌, ◌-ℤ◌, rules}
 use Rattle.std.proofs.lemmas.List.{length-map}
 use Rattle.choose_sums.proofs.Signs.{summed_none, sum_room, plus_sum, minus_sum, summed_all}
 use Rattle.choose_words.proofs.Numbers.{chip_is, may_add, may_take}

@@ -10,6 +10,6 @@ pub returns : goal.returns
 returns g c =
     let top = c.two_largest-top.ensures in
     let chosen = eight_by _ _ c.halves.ensures top.two in (
-      c.number.ensures.answer ∙ ap number5 (c.number_of.ensures _ top.is_x) ∙ chosen.0,
+      c.allowed_number.ensures ∙ ap number5 (c.number_of.ensures _ top.is_x) ∙ chosen.0,
       c.lead_of.ensures _ _ top.is_x top.is_y ∙ chosen.1,
     )

@@ -2,8 +2,8 @@ use Rattle.std.proofs.Common.{◌≡◌, ℕ, ap, ◌∙◌, w32, pos, to_z, of_
 use lib.IntN.{nat_abs}
 use lib.Ieee.{Float, to_signed}
 use Rattle.base.proofs.Adding.{held}
-use Rattle.choose_keys.proofs.Floats.{back}
-use Rattle.choose_words.specs.Held.{holds_float}
+use Rattle.choose_words.proofs.Floats.{back}
+use Rattle.choose_words.specs.Floats.{holds_float}
 use Rattle.choose_words.proofs.counts.whole_of.Goals as goal
 
 read : {v : Float} {x : ℕ} → holds_float v x → to_z w32 (of_z w32 (to_signed 31 v)) ≡ pos x

@@ -5,7 +5,7 @@ use mir.Val.{hbits}
 use Rattle.base.specs.Whole.{Within}
 use Rattle.rules_choosing.specs.Keys.{key_of}
 use Rattle.rules_choosing.proofs.Wide.{product_fits, key_fits, key_is, key_small}
-use Rattle.choose_keys.proofs.Floats.{may_float}
+use Rattle.choose_words.proofs.Floats.{may_float}
 use Rattle.choose_words.proofs.counts.I32Number.key.Goals as goal
 
 room : (w : ℕ) → w ≤ 4 → 4 * w * 90112 + 4 * w < 2 ^ hbits w32

@@ -1,6 +1,6 @@
 use Rattle.std.proofs.Common.{Bool, cond, sym, ap, ◌∙◌}
-use Rattle.choose_keys.specs.Floats.{larger_float}
-use Rattle.choose_keys.proofs.Floats.{larger_is, either}
+use Rattle.choose_words.specs.Floats.{larger_float}
+use Rattle.choose_words.proofs.Floats.{larger_is, either}
 use Rattle.choose_words.proofs.counts.I32Number.larger.Goals as goal
 
 pub returns-then-a-b : goal.returns-then-a-b

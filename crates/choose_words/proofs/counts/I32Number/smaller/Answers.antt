@@ -1,6 +1,6 @@
 use Rattle.std.proofs.Common.{Bool, cond, sym, ap, ◌∙◌}
-use Rattle.choose_keys.specs.Floats.{smaller_float}
-use Rattle.choose_keys.proofs.Floats.{smaller_is, either}
+use Rattle.choose_words.specs.Floats.{smaller_float}
+use Rattle.choose_words.proofs.Floats.{smaller_is, either}
 use Rattle.choose_words.proofs.counts.I32Number.smaller.Goals as goal
 
 pub returns-then-a-b : goal.returns-then-a-b

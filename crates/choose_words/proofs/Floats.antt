@@ -1,23 +1,20 @@
--- Laws of keys as f32: their order is that of the keys, and the key comes back; so the two largest of some keys are
--- found among such numbers.
+-- Laws of keys as f32: their order is that of the keys, and the key comes back.
 -- Assumes nothing.
-use mathlib.Core.Path.{◌≡◌, refl, sym, ap, ◌∙◌, subst}
+use mathlib.Core.Path.{◌≡◌, refl, sym, ◌∙◌, subst}
 use mathlib.Core.Bool.{Bool, true, false, cond}
-use Prim.Native.Nat.{ℕ, suc, ◌*◌, ◌≤◌, ◌<◌}
+use Prim.Native.Nat.{ℕ, ◌*◌, ◌≤◌, ◌<◌}
 use native.Mathlib.Decide.{dec_lt}
 use native.Mathlib.Omega.{arith}
 use borrow.Author.Tests.{lt-ltb, le-ltb}
 use lib.Dec.{T, ltb, lit<, le→leb}
-use lib.IntN.{pos, nat_abs}
-use lib.Signed.{non_neg}
+use lib.IntN.{pos}
 use lib.Ieee.{Float, nan, inf, fin, binary32, up, down, lt, of_int, in_float, in_signed, to_signed}
 use lib.Ieee.Fits.{down_pos}
 use lib.Ieee.Exact.{HasValue}
 use lib.Ieee.Order.{transfer}
 use lib.Ieee.Back.{round_whole, positive_back}
 use Rattle.rules_choosing.specs.Keys.{bigger, lesser}
-use Rattle.choose_sums.proofs.KeyTops.{two_of_lem, two_merge, second_le}
-use Rattle.choose_keys.specs.Floats.{key_float, larger_float, smaller_float, FloatTwo}
+use Rattle.choose_words.specs.Floats.{key_float, larger_float, smaller_float}
 
 -- ---- the order of numbers is that of their values
 ltb_same : (p q a b : ℕ) → (a < b → p < q) → (b ≤ a → q ≤ p) → ltb p q ≡ ltb a b
@@ -87,59 +84,3 @@ either n x y h g = by (ltb x y)
     by : (t : Bool) → (cond t y x < n) × (cond t x y < n)
     by true = (g, h)
     by false = (h, g)
-
--- ---- the two largest
-pub float_two : (k : ℕ → ℕ) (a : ℕ) {f s : Float} → k a < 8388608 → k (suc a) < 8388608
-    → (f ≡ larger_float (key_float (k a)) (key_float (k (suc a))))
-    × (s ≡ smaller_float (key_float (k a)) (key_float (k (suc a)))) → FloatTwo k a (suc (suc a)) f s
-float_two k a h g e = record {
-  x = bigger (k a) (k (suc a));
-  y = lesser (k a) (k (suc a));
-  is_x = e.0 ∙ larger_is (k a) (k (suc a)) h g;
-  is_y = e.1 ∙ smaller_is (k a) (k (suc a)) h g;
-  few = (either 8388608 (k a) (k (suc a)) h g).0;
-  two = two_of_lem k a;
-}
-
-pub float_merge : {k : ℕ → ℕ} {a b c : ℕ} {d e d' e' f s : Float} → FloatTwo k a b d e → FloatTwo k b c d' e'
-    → (f ≡ larger_float d d') × (s ≡ larger_float (smaller_float d d') (larger_float e e')) → FloatTwo k a c f s
-float_merge t u h =
-    let low = either 8388608 t.x u.x t.few u.few in
-    let yt : t.y < 8388608 = omega (arith, t.few, second_le t.two) in
-    let yu : u.y < 8388608 = omega (arith, u.few, second_le u.two) in
-    record {
-      x = bigger t.x u.x;
-      y = bigger (lesser t.x u.x) (bigger t.y u.y);
-      is_x = h.0 ∙ (λ i. larger_float (t.is_x i) (u.is_x i)) ∙ larger_is t.x u.x t.few u.few;
-      is_y =
-          h.1
-          ∙ (λ i. larger_float (smaller_float (t.is_x i) (u.is_x i)) (larger_float (t.is_y i) (u.is_y i)))
-          ∙ (λ i. larger_float (smaller_is t.x u.x t.few u.few i) (larger_is t.y u.y yt yu i))
-          ∙ larger_is (lesser t.x u.x) (bigger t.y u.y) low.1 (either 8388608 t.y u.y yt yu).0;
-      few = low.0;
-      two = two_merge t.two u.two;
-    }
-
--- ---- the keys back
-abbrev Asked : Float → Type 0
-Asked v = T (in_signed binary32 31 v) × T (non_neg (to_signed 31 v)) × (nat_abs (to_signed 31 v) < 8388608)
-
-asked : (x : ℕ) → x < 8388608 → Asked (key_float x)
-asked x h = let b = back x h in (b.0, rw b.1 tt, rw b.1 h)
-
-module _ {k : ℕ → ℕ} {a b : ℕ} {f s : Float} (t : FloatTwo k a b f s) where
-  below : t.y < 8388608
-  below = omega (arith, t.few, second_le t.two)
-
-  -- what is asked of a number, and what comes of it
-  pub first_asks : Asked f
-  first_asks = rw t.is_x (asked t.x t.few)
-
-  pub second_asks : Asked s
-  second_asks = rw t.is_y (asked t.y below)
-
-  pub first_back : nat_abs (to_signed 31 f) ≡ t.x
-  first_back = ap (λ (v : Float). nat_abs (to_signed 31 v)) t.is_x ∙ ap nat_abs (back t.x t.few).1
-
-  pub second_back : nat_abs (to_signed 31 s) ≡ t.y
-  second_back = ap (λ (v : Float). nat_abs (to_signed 31 v)) t.is_y ∙ ap nat_abs (back t.y below).1

@@ -5,7 +5,6 @@
 use Rattle.std.specs.Prelude.{◌≡◌, cond, ℕ, ◌<◌, pos, Float}
 use Rattle.std.specs.Float.{binary32}
 use Rattle.std.specs.Float.Ieee.{of_int, lt}
-use Rattle.rules_choosing.specs.Keys.{TwoLargest}
 
 abbrev pub key_float : ℕ → Float
 key_float k = of_int binary32 (pos k)
@@ -16,11 +15,6 @@ larger_float a b = cond (lt a b) b a
 abbrev pub smaller_float : Float → Float → Float
 smaller_float a b = cond (lt a b) a b
 
--- two such numbers are the two largest of the keys from a to before b
-pub record FloatTwo (k : ℕ → ℕ) (a b : ℕ) (first second : Float) : Type 0 where
-  pub x : ℕ
-  pub y : ℕ
-  pub is_x : first ≡ key_float x
-  pub is_y : second ≡ key_float y
-  pub few : x < 8388608
-  pub two : TwoLargest k a b x y
+-- an f32 holds a key, which is small enough to be exact
+abbrev pub holds_float : Float → ℕ → Type 0
+holds_float v x = (v ≡ key_float x) × (x < 8388608)
