@@ -158,7 +158,7 @@ def control(name):
 def jobs_of(name):
     """The checks of a crate, each to be called."""
     made = groups(edits_of(CRATES, name))
-    jobs = [lambda g=g: try_together(g) if f else try_alone(g[0]) for f, g in made]
+    jobs = [lambda f=f, g=g: try_together(g) if f else try_alone(g[0]) for f, g in made]
     return jobs + ([lambda: control(name)] if any(not f for f, _ in made) else [])
 
 
