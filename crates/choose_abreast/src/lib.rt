@@ -2,8 +2,9 @@
 // sixteen stands side by side. Then one step does for all of them what it did for one.
 #![tactic(auto)]
 
-ghost use Rattle.std.specs.Prelude.{◌≡◌, ◌+◌, ◌*◌, ◌%◌, ◌≤◌, min, length};
+ghost use Rattle.std.specs.Prelude.{◌≡◌, ◌+◌, ◌*◌, ◌%◌, ◌<◌, ◌≤◌, min, length};
 ghost use Rattle.choose_abreast.specs.Abreast.{Begins, Merged, Turned};
+ghost use Rattle.choose_recorded.specs.Columns.{ColumnSet};
 
 // How many of so many symbols the next sixteen take.
 pub fn at_most_16(left: usize) -> usize
@@ -47,4 +48,16 @@ pub fn turn(row: &mut [i8], other: &mut [i8])
     merge(other, row);
     merge(row, other);
     merge(other, row);
+}
+
+// A symbol's eight chips, told on both axes, as column l of a row of sixteen symbols.
+pub fn put_column<T: Copy>(i: [T; 8], q: [T; 8], l: usize, row: &mut [T])
+    requires { (l < 16) × (length row.old ≡ 256) }
+    ensures row { (d : T) → ColumnSet d i q l row.old 8 row.new }
+{
+    for k in 0..8 {
+        let at = 32 * k + l;
+        row[at] = i[k];
+        row[at + 16] = q[k];
+    }
 }

@@ -4,7 +4,6 @@
 #![tactic(auto)]
 
 ghost use Rattle.std.specs.Prelude.{◌≡◌, ◌+◌, ◌*◌, ◌/◌, ◌<◌, ◌≤◌, length, get_or};
-ghost use Rattle.base.specs.Tables.{tabulate};
 ghost use Rattle.base.specs.Whole.{Within};
 ghost use Rattle.rules_chips.specs.Chips.{byte_recording};
 ghost use Rattle.rules_symbols.specs.Choice.{decided, lead_of};
@@ -68,23 +67,6 @@ fn sixteen_fives(row: &[i8], l: usize, numbers: &mut [u8; 64], raw: &mut [u16; 6
     }
 }
 
-// A lead as bytes have it, in counts.
-fn lead_counts(lead: u16) -> u32
-    ensures answer { result ≡ 16 * lead }
-{
-    16 * (lead as u32)
-}
-
-// Leads as bytes have them, in counts: a loop of its own, since four counts take the room of eight numbers of 16 bits.
-fn in_counts(raw: &[u16; 64], leads: &mut [u32; 64])
-    requires { (length raw.now ≡ 64) × (length leads.old ≡ 64) }
-    ensures leads { leads.new ≡ tabulate (λ l. 16 * get_or raw.now l 0) 64 }
-{
-    for l in 0..64 {
-        leads[l] = lead_counts(raw[l]);
-    }
-}
-
 // m Barker symbols from a place.
 pub fn barkers(bytes: &[i8], at: usize, m: usize, numbers: &mut [u8; 64], leads: &mut [u32; 64])
     requires { (m ≤ 64) × (at + 11 * m ≤ length bytes.now / 2) × (length numbers.old ≡ 64)
@@ -103,7 +85,7 @@ pub fn barkers(bytes: &[i8], at: usize, m: usize, numbers: &mut [u8; 64], leads:
         sixteen_barkers(&row, l, numbers, &mut raw);
         l += 16;
     }
-    in_counts(&raw, leads);
+    choose_words::in_counts(&raw, leads);
 }
 
 // m symbols of 5.5 Mbit/s from a place.
@@ -124,7 +106,7 @@ pub fn fives(bytes: &[i8], at: usize, m: usize, numbers: &mut [u8; 64], leads: &
         sixteen_fives(&row, l, numbers, &mut raw);
         l += 16;
     }
-    in_counts(&raw, leads);
+    choose_words::in_counts(&raw, leads);
 }
 
 // m symbols of 11 Mbit/s from a place.

@@ -4,9 +4,8 @@
 #![tactic(auto)]
 
 ghost use Rattle.std.specs.Prelude.{◌≡◌, true, not, ◌+◌, ◌*◌, ◌<◌, ◌≤◌, length, get_or};
-ghost use Rattle.base.specs.Tables.{tabulate};
 ghost use Rattle.rules_chips.specs.Chips.{unusable, is_unusable, hard_recording};
-ghost use Rattle.choose_recorded.specs.Columns.{ColumnSet, Columns, hard_column};
+ghost use Rattle.choose_recorded.specs.Columns.{Columns, hard_column};
 ghost use Rattle.choose_recorded.specs.Recorded.{hard_part, AllUsable, DecidedAt, LeadsAt};
 
 use choose_axes::Axis;
@@ -46,23 +45,6 @@ fn symbol<const N: usize>(octets: &[u8], at: usize) -> [Chip; N]
     chips
 }
 
-// A lead of so many full chips, in counts.
-fn lead_counts(full: u8) -> u32
-    ensures answer { result ≡ 1024 * full }
-{
-    1024 * (full as u32)
-}
-
-// Leads in full chips, in counts: a loop of its own, since four counts take the room of sixteen octets.
-fn in_counts(full: &[u8; 64], leads: &mut [u32; 64])
-    requires { (length full.now ≡ 64) × (length leads.old ≡ 64) }
-    ensures leads { leads.new ≡ tabulate (λ l. 1024 * get_or full.now l 0) 64 }
-{
-    for l in 0..64 {
-        leads[l] = lead_counts(full[l]);
-    }
-}
-
 // m Barker symbols from a place.
 pub fn barkers(octets: &[u8], at: usize, m: usize, numbers: &mut [u8; 64], leads: &mut [u32; 64])
     requires { (m ≤ 64) × (at + 11 * m ≤ length octets.now)
@@ -76,7 +58,7 @@ pub fn barkers(octets: &[u8], at: usize, m: usize, numbers: &mut [u8; 64], leads
         numbers[l] = c.number;
         full[l] = c.lead;
     }
-    in_counts(&full, leads);
+    choose_words::in_counts(&full, leads);
 }
 
 // m symbols of 5.5 Mbit/s from a place.
@@ -92,19 +74,7 @@ pub fn fives(octets: &[u8], at: usize, m: usize, numbers: &mut [u8; 64], leads: 
         numbers[l] = c.number;
         full[l] = c.lead;
     }
-    in_counts(&full, leads);
-}
-
-// A symbol's eight chips as column l of a row of sixteen symbols.
-fn put_column(i: [i8; 8], q: [i8; 8], l: usize, row: &mut [i8])
-    requires { (l < 16) × (length row.old ≡ 256) }
-    ensures row { ColumnSet i q l row.old 8 row.new }
-{
-    for k in 0..8 {
-        let at = 32 * k + l;
-        row[at] = i[k];
-        row[at + 16] = q[k];
-    }
+    choose_words::in_counts(&full, leads);
 }
 
 // Up to sixteen symbols of 11 Mbit/s as columns of a row, in full chips.
@@ -115,7 +85,7 @@ fn columns(octets: &[u8], at: usize, count: usize, row: &mut [i8])
 {
     for l in 0..count {
         let chips = symbol(octets, at + 8 * l);
-        put_column(
+        choose_abreast::put_column(
             choose_axes::hard_units(chips, Axis::I),
             choose_axes::hard_units(chips, Axis::Q),
             l,

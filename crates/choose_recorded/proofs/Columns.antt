@@ -41,61 +41,65 @@ abbrev at : List ℤ → ℕ → ℤ
 at row j = get_or row j (pos 0)
 
 -- ---- two numbers set, at two places
-module _ (row : List ℤ) (i q : ℕ) (v w : ℤ) where
-  abbrev two : List ℤ
+module _ {A : Type 0} (d : A) (row : List A) (i q : ℕ) (v w : A) where
+  abbrev two : List A
   two = set (set row i v) q w
 
   two_long : length two ≡ length row
   two_long = length-set (set row i v) q w ∙ length-set row i v
 
-  two_first : i < length row → (i ≡ q → ⊥) → at two i ≡ v
-  two_first h d = get_or-set_other (set row i v) q i w (pos 0) d ∙ get_or-set_same row i v (pos 0) h
+  two_first : i < length row → (i ≡ q → ⊥) → get_or two i d ≡ v
+  two_first h e = get_or-set_other (set row i v) q i w d e ∙ get_or-set_same row i v d h
 
-  two_second : q < length row → at two q ≡ w
-  two_second h = get_or-set_same (set row i v) q w (pos 0) (omega (arith, length-set row i v))
+  two_second : q < length row → get_or two q d ≡ w
+  two_second h = get_or-set_same (set row i v) q w d (omega (arith, length-set row i v))
 
-  two_other : (j : ℕ) → (j ≡ i → ⊥) → (j ≡ q → ⊥) → at two j ≡ at row j
-  two_other j d e = get_or-set_other (set row i v) q j w (pos 0) e ∙ get_or-set_other row i j v (pos 0) d
+  two_other : (j : ℕ) → (j ≡ i → ⊥) → (j ≡ q → ⊥) → get_or two j d ≡ get_or row j d
+  two_other j e f = get_or-set_other (set row i v) q j w d f ∙ get_or-set_other row i j v d e
 
 -- ---- a column, chip by chip
-pub column_none : (x y : List ℤ) (l : ℕ) (row : List ℤ) → ColumnSet x y l row 0 row
-column_none x y l row = record {
+pub column_none : {A : Type 0} (d : A) (x y : List A) (l : ℕ) (row : List A) → ColumnSet d x y l row 0 row
+column_none d x y l row = record {
   long = refl;
   first = λ k h. absurd (omega arith);
   second = λ k h. absurd (omega arith);
   kept = λ j h. refl;
 }
 
-module _ {x y : List ℤ} {l : ℕ} {before : List ℤ} {n : ℕ} {row : List ℤ} (v w : ℤ) (c : ColumnSet x y l before n row)
-    (few : n < 8) (there : l < 16) (all : length before ≡ 256) (ev : v ≡ at x n) (ew : w ≡ at y n) where
-  abbrev next : List ℤ
-  next = two row (32 * n + l) (32 * n + l + 16) v w
+module _ {A : Type 0} {d : A} {x y : List A} {l : ℕ} {before : List A} {n : ℕ} {row : List A} (v w : A)
+    (c : ColumnSet d x y l before n row) (few : n < 8) (there : l < 16) (all : length before ≡ 256)
+    (ev : v ≡ get_or x n d) (ew : w ≡ get_or y n d) where
+  abbrev item : List A → ℕ → A
+  item xs j = get_or xs j d
 
-  first_next : (k : ℕ) → k < n + 1 → Dec (k < n) → at next (l + 32 * k) ≡ at x k
+  abbrev next : List A
+  next = two d row (32 * n + l) (32 * n + l + 16) v w
+
+  first_next : (k : ℕ) → k < n + 1 → Dec (k < n) → item next (l + 32 * k) ≡ item x k
   first_next k h (yes p) =
-      two_other row (32 * n + l) (32 * n + l + 16) v w (l + 32 * k) (λ e. omega arith) (λ e. omega arith) ∙ c.first k p
+      two_other d row (32 * n + l) (32 * n + l + 16) v w (l + 32 * k) (λ e. omega arith) (λ e. omega arith) ∙ c.first k p
   first_next k h (no p) =
       let e : n ≡ k = omega arith in
-      let d : 32 * n + l ≡ l + 32 * k = omega arith in
-      (λ t. at next (sym d t))
-      ∙ two_first row (32 * n + l) (32 * n + l + 16) v w (omega (arith, c.long)) (λ g. omega arith) ∙ ev ∙ ap (at x) e
+      let p : 32 * n + l ≡ l + 32 * k = omega arith in
+      (λ t. item next (sym p t))
+      ∙ two_first d row (32 * n + l) (32 * n + l + 16) v w (omega (arith, c.long)) (λ g. omega arith) ∙ ev ∙ ap (item x) e
 
-  second_next : (k : ℕ) → k < n + 1 → Dec (k < n) → at next (16 + l + 32 * k) ≡ at y k
+  second_next : (k : ℕ) → k < n + 1 → Dec (k < n) → item next (16 + l + 32 * k) ≡ item y k
   second_next k h (yes p) =
-      two_other row (32 * n + l) (32 * n + l + 16) v w (16 + l + 32 * k) (λ e. omega arith) (λ e. omega arith)
+      two_other d row (32 * n + l) (32 * n + l + 16) v w (16 + l + 32 * k) (λ e. omega arith) (λ e. omega arith)
       ∙ c.second k p
   second_next k h (no p) =
       let e : n ≡ k = omega arith in
-      let d : 32 * n + l + 16 ≡ 16 + l + 32 * k = omega arith in
-      (λ t. at next (sym d t)) ∙ two_second row (32 * n + l) (32 * n + l + 16) v w (omega (arith, c.long)) ∙ ew
-      ∙ ap (at y) e
+      let p : 32 * n + l + 16 ≡ 16 + l + 32 * k = omega arith in
+      (λ t. item next (sym p t)) ∙ two_second d row (32 * n + l) (32 * n + l + 16) v w (omega (arith, c.long)) ∙ ew
+      ∙ ap (item y) e
 
-  pub column_more : ColumnSet x y l before (n + 1) (set (set row (32 * n + l) v) (32 * n + l + 16) w)
+  pub column_more : ColumnSet d x y l before (n + 1) (set (set row (32 * n + l) v) (32 * n + l + 16) w)
   column_more = record {
-    long = two_long row (32 * n + l) (32 * n + l + 16) v w ∙ c.long;
+    long = two_long d row (32 * n + l) (32 * n + l + 16) v w ∙ c.long;
     first = λ k h. first_next k h (dec_lt k n);
     second = λ k h. second_next k h (dec_lt k n);
-    kept = λ j h. two_other row (32 * n + l) (32 * n + l + 16) v w j (λ e. h (omega arith)) (λ e. h (omega arith))
+    kept = λ j h. two_other d row (32 * n + l) (32 * n + l + 16) v w j (λ e. h (omega arith)) (λ e. h (omega arith))
         ∙ c.kept j h;
   }
 
@@ -105,7 +109,7 @@ columns_none x y row e =
     record { long = e; first = λ s h. absurd (omega arith); second = λ s h. absurd (omega arith) }
 
 -- a column that was there, and one that was set
-same_column : {u v row after : List ℤ} {n : ℕ} → ColumnSet u v n row 8 after → (from : ℕ) → (from % 16 ≡ n → ⊥)
+same_column : {u v row after : List ℤ} {n : ℕ} → ColumnSet (pos 0) u v n row 8 after → (from : ℕ) → (from % 16 ≡ n → ⊥)
     → every_row after from 8 ≡ every_row row from 8
 same_column c from h = tabulate_ext _ _ 8 (λ k l. c.kept (from + 32 * k) (λ e. h (omega arith)))
 
@@ -114,7 +118,7 @@ set_column : (after z : List ℤ) (from : ℕ) → length z ≡ 8 → ((k : ℕ)
 set_column after z from e h = tabulate_ext _ (at z) 8 h ∙ sym (as_table z 8 (pos 0) e)
 
 pub columns_more : {x y : ℕ → List ℤ} {row after u v : List ℤ} {n : ℕ} → Columns x y row n → n < 16
-    → ColumnSet u v n row 8 after → length u ≡ 8 → length v ≡ 8 → u ≡ x n → v ≡ y n → Columns x y after (n + 1)
+    → ColumnSet (pos 0) u v n row 8 after → length u ≡ 8 → length v ≡ 8 → u ≡ x n → v ≡ y n → Columns x y after (n + 1)
 columns_more {x} {y} {row} {after} {u} {v} {n} b few c lu lv eu ev = record {
   long = c.long ∙ b.long;
   first = λ s h. by_first s h (dec_lt s n);
@@ -144,7 +148,7 @@ zeros_within b n = record { at = λ j. by j (dec_lt j n) }
         (within_zero b)
 
 module _ {b : ℕ} {x y : List ℤ} {l : ℕ} {before after : List ℤ} (all : length before ≡ 256)
-    (c : ColumnSet x y l before 8 after) (wx : RowWithin b x) (wy : RowWithin b y) (w : RowWithin b before) where
+    (c : ColumnSet (pos 0) x y l before 8 after) (wx : RowWithin b x) (wy : RowWithin b y) (w : RowWithin b before) where
   -- in the column, on either axis; elsewhere; past the row
   column_small : (j : ℕ) → j % 16 ≡ l → j < 256 → Dec (j % 32 < 16) → Within b (at after j)
   column_small j e h (yes p) =

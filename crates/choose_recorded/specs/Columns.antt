@@ -9,11 +9,11 @@ use Rattle.choose_sums.specs.Sums.{every_row}
 use Rattle.choose_recorded.specs.Recorded.{hard_part, soft_part}
 
 -- the first n chips of column l are the numbers x of I and y of Q; the other columns of after are those of before
-pub record ColumnSet (x y : List ℤ) (l : ℕ) (before : List ℤ) (n : ℕ) (after : List ℤ) : Type 0 where
+pub record ColumnSet {A : Type 0} (d : A) (x y : List A) (l : ℕ) (before : List A) (n : ℕ) (after : List A) : Type 0 where
   pub long : length after ≡ length before
-  pub first : (k : ℕ) → k < n → get_or after (l + 32 * k) (pos 0) ≡ get_or x k (pos 0)
-  pub second : (k : ℕ) → k < n → get_or after (16 + l + 32 * k) (pos 0) ≡ get_or y k (pos 0)
-  pub kept : (j : ℕ) → (j % 16 ≡ l → ⊥) → get_or after j (pos 0) ≡ get_or before j (pos 0)
+  pub first : (k : ℕ) → k < n → get_or after (l + 32 * k) d ≡ get_or x k d
+  pub second : (k : ℕ) → k < n → get_or after (16 + l + 32 * k) d ≡ get_or y k d
+  pub kept : (j : ℕ) → (j % 16 ≡ l → ⊥) → get_or after j d ≡ get_or before j d
 
 -- the first n columns of a row are symbols' numbers of I and of Q; of the others nothing is said
 pub record Columns (x y : ℕ → List ℤ) (row : List ℤ) (n : ℕ) : Type 0 where

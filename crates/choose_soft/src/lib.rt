@@ -5,7 +5,7 @@
 ghost use Rattle.std.specs.Prelude.{◌≡◌, true, not, ◌+◌, ◌*◌, ◌<◌, ◌≤◌, length, get_or};
 ghost use Rattle.rules_chips.specs.Chips.{unusable, is_unusable, soft_recording};
 ghost use Rattle.rules_choosing.specs.Scores.{RowWithin};
-ghost use Rattle.choose_recorded.specs.Columns.{ColumnSet, Columns, soft_column};
+ghost use Rattle.choose_recorded.specs.Columns.{Columns, soft_column};
 ghost use Rattle.choose_recorded.specs.Recorded.{soft_part, AllUsable, DecidedAt, LeadsAt};
 
 use choose_axes::Axis;
@@ -101,18 +101,6 @@ pub fn fives(
     }
 }
 
-// A symbol's eight chips as column l of a row of sixteen symbols.
-fn put_column(i: [i32; 8], q: [i32; 8], l: usize, row: &mut [i32])
-    requires { (l < 16) × (length row.old ≡ 256) }
-    ensures row { ColumnSet i q l row.old 8 row.new }
-{
-    for k in 0..8 {
-        let at = 32 * k + l;
-        row[at] = i[k];
-        row[at + 16] = q[k];
-    }
-}
-
 // Up to sixteen symbols of 11 Mbit/s as columns of a row, in counts.
 fn columns(i: &[f32], q: &[f32], at: usize, count: usize, row: &mut [i32])
     requires { (count ≤ 16) × (at + 8 * count ≤ length i.now) × (at + 8 * count ≤ length q.now)
@@ -124,7 +112,7 @@ fn columns(i: &[f32], q: &[f32], at: usize, count: usize, row: &mut [i32])
 {
     for l in 0..count {
         let chips = symbol(i, q, at + 8 * l);
-        put_column(
+        choose_abreast::put_column(
             choose_axes::soft_counts(chips, Axis::I),
             choose_axes::soft_counts(chips, Axis::Q),
             l,

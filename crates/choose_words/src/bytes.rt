@@ -1,10 +1,10 @@
 // Signed bytes, a full chip being 64, as numbers of 16 bits: eight symbols side by side.
-ghost use Rattle.std.specs.Prelude.{◌≡◌, pos};
+ghost use Rattle.std.specs.Prelude.{◌≡◌, ◌*◌, pos};
 ghost use Rattle.std.proofs.Common.{w16};
 ghost use lib.Dec.{lit<};
 ghost use Rattle.base.proofs.Whole.{fits_at};
 
-use crate::Number;
+use crate::{Number, Told};
 
 impl Number for i16 {
     type Key = i16;
@@ -53,4 +53,13 @@ impl Number for i16 {
     ghost takes = { λ a b h. fits_at w16 h (lit< tt) };
 
     ghost taken = { λ a b r e. e };
+}
+
+// A lead in 64ths of a full chip.
+impl Told for u16 {
+    ghost counts = { λ l. 16 * l };
+
+    fn in_counts(self) -> u32 {
+        16 * (self as u32)
+    }
 }

@@ -75,6 +75,24 @@ pub trait Number: Copy + Add<Output = Self> + Sub<Output = Self> {
     ghost taken: { (a b r : Self) → Self.sub_gives a b r → whole r ≡ whole a -ℤ whole b };
 }
 
+// A lead as a recorder tells it.
+pub trait Told: Copy {
+    // The counts that it is.
+    ghost counts: { Self → ℕ };
+
+    fn in_counts(self) -> u32
+        ensures { result ≡ counts self };
+}
+
+// Leads in counts: a loop of its own, since four counts take the room of sixteen octets, or of eight numbers of 16 bits.
+pub fn in_counts<L: Told>(told: &[L; 64], leads: &mut [u32; 64])
+    ensures leads { leads.new ≡ map L.counts told.now }
+{
+    for l in 0..64 {
+        leads[l] = told[l].in_counts();
+    }
+}
+
 // Two keys, the larger first.
 #[derive(Clone, Copy)]
 struct Two<K> {

@@ -1,10 +1,10 @@
 // Full chips: a hard recording's chips in octets, sixteen symbols side by side.
-ghost use Rattle.std.specs.Prelude.{◌≡◌};
+ghost use Rattle.std.specs.Prelude.{◌≡◌, ◌*◌};
 ghost use Rattle.std.proofs.Common.{w8};
 ghost use lib.Dec.{lit<};
 ghost use Rattle.base.proofs.Whole.{fits_at};
 
-use crate::Number;
+use crate::{Number, Told};
 
 impl Number for i8 {
     type Key = u8;
@@ -54,4 +54,13 @@ impl Number for i8 {
     ghost takes = { λ a b h. fits_at w8 h (lit< tt) };
 
     ghost taken = { λ a b r e. e };
+}
+
+// A lead in full chips.
+impl Told for u8 {
+    ghost counts = { λ l. 1024 * l };
+
+    fn in_counts(self) -> u32 {
+        1024 * (self as u32)
+    }
 }

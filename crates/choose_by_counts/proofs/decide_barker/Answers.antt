@@ -9,10 +9,13 @@ use Rattle.choose_words.proofs.Numbers.{whole_row}
 use Rattle.choose_by_counts.proofs.decide_barker.Goals as goal
 
 pub barker-requires : goal.barker-requires
-barker-requires c = (omega arith, (
-  subst (RowWithin 8192) (sym (whole_row c.soft_counts.ensures.answer)) (counts_small I c.args.chips),
-  subst (RowWithin 8192) (sym (whole_row c.soft_counts-2.ensures.answer)) (counts_small Q c.args.chips),
-))
+barker-requires c = (
+  omega arith,
+  (
+    subst (RowWithin 8192) (sym (whole_row c.soft_counts.ensures.answer)) (counts_small I c.args.chips),
+    subst (RowWithin 8192) (sym (whole_row c.soft_counts-2.ensures.answer)) (counts_small Q c.args.chips),
+  ),
+)
 
 pub returns : goal.returns
 returns c =

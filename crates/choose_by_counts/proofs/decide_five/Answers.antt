@@ -9,10 +9,13 @@ use Rattle.choose_words.proofs.Numbers.{whole_row}
 use Rattle.choose_by_counts.proofs.decide_five.Goals as goal
 
 pub five-requires : goal.five-requires
-five-requires c = (omega arith, (
-  subst (RowWithin 8192) (sym (whole_row c.soft_counts.ensures.answer)) (counts_small I c.args.chips),
-  subst (RowWithin 8192) (sym (whole_row c.soft_counts-2.ensures.answer)) (counts_small Q c.args.chips),
-))
+five-requires c = (
+  omega arith,
+  (
+    subst (RowWithin 8192) (sym (whole_row c.soft_counts.ensures.answer)) (counts_small I c.args.chips),
+    subst (RowWithin 8192) (sym (whole_row c.soft_counts-2.ensures.answer)) (counts_small Q c.args.chips),
+  ),
+)
 
 pub returns : goal.returns
 returns c =

@@ -9,10 +9,13 @@ use Rattle.choose_words.proofs.Numbers.{whole_row}
 use Rattle.choose_by_units.proofs.decide_barker.Goals as goal
 
 pub barker-requires : goal.barker-requires
-barker-requires c = (omega arith, (
-  subst (RowWithin 1) (sym (whole_row c.hard_units.ensures.answer)) (units_small I c.args.chips),
-  subst (RowWithin 1) (sym (whole_row c.hard_units-2.ensures.answer)) (units_small Q c.args.chips),
-))
+barker-requires c = (
+  omega arith,
+  (
+    subst (RowWithin 1) (sym (whole_row c.hard_units.ensures.answer)) (units_small I c.args.chips),
+    subst (RowWithin 1) (sym (whole_row c.hard_units-2.ensures.answer)) (units_small Q c.args.chips),
+  ),
+)
 
 pub returns : goal.returns
 returns c =

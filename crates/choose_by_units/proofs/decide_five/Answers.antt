@@ -9,10 +9,13 @@ use Rattle.choose_words.proofs.Numbers.{whole_row}
 use Rattle.choose_by_units.proofs.decide_five.Goals as goal
 
 pub five-requires : goal.five-requires
-five-requires c = (omega arith, (
-  subst (RowWithin 1) (sym (whole_row c.hard_units.ensures.answer)) (units_small I c.args.chips),
-  subst (RowWithin 1) (sym (whole_row c.hard_units-2.ensures.answer)) (units_small Q c.args.chips),
-))
+five-requires c = (
+  omega arith,
+  (
+    subst (RowWithin 1) (sym (whole_row c.hard_units.ensures.answer)) (units_small I c.args.chips),
+    subst (RowWithin 1) (sym (whole_row c.hard_units-2.ensures.answer)) (units_small Q c.args.chips),
+  ),
+)
 
 pub returns : goal.returns
 returns c =

@@ -1,4 +1,5 @@
-use Rattle.std.proofs.Common.{List, map, ap, ◌∙◌, arith}
+use Rattle.std.proofs.Common.{◌*◌, List, map, ap, ◌∙◌, arith}
+use Rattle.base.proofs.Tables.{map_tabulate}
 use Rattle.rules_rates.specs.declared.Rate.TheVariants.{Five}
 use Rattle.rules_chips.specs.declared.Chip.{Chip}
 use Rattle.rules_chips.specs.Chips.{hard_recording}
@@ -23,4 +24,5 @@ loop-l-preserved c =
 pub returns-clause-leads : goal.returns-clause-leads
 returns-clause-leads c =
     leads_times Five (hard_recording c.args.octets.now) c.args.at 1024 c.loop-l.invariant.1 c.loop-l-test.false
-    c.requires.0 c.in_counts.ensures.leads (lead_hard Five c.args.octets.now c.args.at c.args.m c.requires.1)
+    c.requires.0
+    (c.in_counts.ensures.leads ∙ map_tabulate (λ x. 1024 * x) c.loop-l.full 64 0 c.loop-l.invariant.1.long) (lead_hard Five c.args.octets.now c.args.at c.args.m c.requires.1)

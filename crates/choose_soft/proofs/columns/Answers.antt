@@ -1,4 +1,4 @@
-use Rattle.std.proofs.Common.{◌≡◌, ℕ, ◌+◌, ◌*◌, ◌<◌, ◌≤◌, List, length, sym, ap, ◌∙◌, subst, arith, rules}
+use Rattle.std.proofs.Common.{◌≡◌, ℕ, ◌+◌, ◌*◌, ◌<◌, ◌≤◌, List, length, pos, sym, ap, ◌∙◌, subst, arith, rules}
 use Rattle.choose_axes.specs.declared.Axis.TheVariants.{I, Q}
 use Rattle.std.specs.Prelude.{Float}
 use Rattle.rules_chips.specs.declared.Chip.{Chip}
@@ -40,9 +40,9 @@ loop-l-preserved c =
     let q = c.soft_counts-in-loop-l.ensures.answer in
     let long_i : length c.soft_counts.result ≡ 8 = search rules in
     let long_q : length c.soft_counts-in-loop-l.result ≡ 8 = search rules in (
-      columns_more c.loop-l.invariant.0 (omega (arith, c.requires.0)) c.put_column.ensures.row long_i long_q
+      columns_more c.loop-l.invariant.0 (omega (arith, c.requires.0)) (c.put_column.ensures.row (pos 0)) long_i long_q
           (i ∙ ap (counts_along I) chips) (q ∙ ap (counts_along Q) chips),
-      column_within c.loop-l.invariant.0.long c.put_column.ensures.row
+      column_within c.loop-l.invariant.0.long (c.put_column.ensures.row (pos 0))
           (subst (RowWithin 8192) (sym i) (counts_small I c.symbol-chips.result))
           (subst (RowWithin 8192) (sym q) (counts_small Q c.symbol-chips.result)) c.loop-l.invariant.1,
     )
