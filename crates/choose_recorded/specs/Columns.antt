@@ -2,7 +2,7 @@
 -- 32 k + 16 on, and column l is symbol l.
 -- Definitions only. Assumes nothing.
 -- working notion: of the code that chooses words; no promise needs it
-use Rattle.std.specs.Prelude.{◌≡◌, List, ℕ, ◌+◌, ◌*◌, ◌%◌, ◌<◌, length, get_or, ℤ, pos, Float}
+use Rattle.std.specs.Prelude.{◌≡◌, List, ℕ, ◌+◌, ◌*◌, ◌%◌, ◌<◌, length, get_or, ℤ, Float}
 use Rattle.choose_axes.specs.declared.Axis.{Axis}
 use Rattle.choose_axes.specs.Axes.{counts_along, units_along}
 use Rattle.choose_sums.specs.Sums.{every_row}

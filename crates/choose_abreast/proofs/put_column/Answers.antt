@@ -1,6 +1,5 @@
-use Rattle.std.proofs.Common.{◌≡◌, length, subst, arith, rules}
+use Rattle.std.proofs.Common.{◌≡◌, length, arith, rules}
 use Rattle.std.proofs.lemmas.List.{get_or_default}
-use Rattle.choose_recorded.specs.Columns.{ColumnSet}
 use Rattle.choose_recorded.proofs.Columns.{column_none, column_more}
 use Rattle.choose_abreast.proofs.put_column.Goals as goal
 
