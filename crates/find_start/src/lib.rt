@@ -6,7 +6,7 @@ ghost use Rattle.std.specs.Prelude.{◌≡◌, ℕ, ◌+◌, ◌≤◌, ◌<◌,
 ghost use Rattle.rules_chips.specs.Chips.{hard_recording};
 ghost use Rattle.rules_frame.specs.Frame.{front_chips};
 ghost use Rattle.rules_reading.specs.Reading.{front_of};
-ghost use Rattle.rules_finding.specs.Finding.{start_or, first_start, finding_of, found_of};
+ghost use Rattle.rules_finding.specs.Finding.{is_offsets, start_or, first_start, finding_of, found_of};
 ghost use Rattle.rules_finding.proofs.Laws.{Missed};
 
 use choose_recorders::Recording;
@@ -136,6 +136,13 @@ fn search(kind: Kind, chips: &[u8], offsets: usize) -> Result<Start, NotFound>
     Err(NotFound::NoStart)
 }
 
+// Whether so many offsets are tried: 1 to 4,096.
+fn is_offsets(offsets: u64) -> bool
+    ensures answer { result ≡ is_offsets offsets }
+{
+    (1..=4096).contains(&offsets)
+}
+
 // The start, or why it is not told: 1, then 18, then the search.
 fn start_of(kind: u64, chips: &[u8], offsets: u64) -> Result<Start, NotFound>
     ensures answer { result ≡ finding_of kind offsets (hard_recording chips.now) }
@@ -143,7 +150,7 @@ fn start_of(kind: u64, chips: &[u8], offsets: u64) -> Result<Start, NotFound>
     if !common_kinds::is_kind(kind) {
         return Err(NotFound::NoKind);
     }
-    if offsets < 1 || 4096 < offsets {
+    if !is_offsets(offsets) {
         return Err(NotFound::NoOffsets);
     }
     search(common_kinds::kind_of(kind), chips, offsets as usize)
