@@ -22,7 +22,6 @@ use Rattle.choose_recorded.proofs.Search.{none_usable}
 use Rattle.read_fronts.specs.Openings.{after_usable}
 
 module _ (k : Kind) (rec : List Taken) where
-
   pub front_short : length rec < front_chips k → (accepted : Accepted) → front_by accepted k rec
       ≡ Err ShorterThanFront
   unfolding front_by

@@ -97,7 +97,6 @@ opens_none accepted k rec o e p q =
 
 module _ (accepted : Accepted) (k : Kind) (rec : List Taken) (a : Opening) (x : Opens k rec (front_by accepted k rec) a)
   where
-
     module _ (t : Told) (f : a.front ≡ Ok t) where
       pub whole_few : t.n ≤ 4095
       whole_few = front_few accepted k rec t (sym x.told ∙ f)
