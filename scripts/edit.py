@@ -106,7 +106,7 @@ def impl_at(text, at):
     if not heads or len(heads) != len(re.findall(r'^(?:impl|trait|pub trait)\b', text[:at], re.M)):
         return None
     trait, argument, of = heads[-1]
-    return of + trait + argument[:1].upper() + argument[1:] + '/'
+    return of[:1].upper() + of[1:] + trait + argument[:1].upper() + argument[1:] + '/'
 
 
 def edits_of(crates, name, folders=('must-fail', 'refused')):
