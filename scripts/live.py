@@ -4,7 +4,8 @@
 - A function or constant of crates/*/src that nothing reaches from an exported function (pub extern "C") or a program's
   main is a fault, unless DEAD names it with a reason.
 - A `pub fn` without an `ensures` is a fault, unless SILENT names it with a reason; those of programs too.
-Names in contracts do not count as reached: they are not code. Ends with status 1 if there is a fault; `--self-test`
+Names in contracts do not count as reached: they are not code. A trait's functions are those of its impls. Ends with
+status 1 if there is a fault; `--self-test`
 tries this script on small sources first.
 """
 import glob
@@ -186,7 +187,8 @@ GOOD = {('low', ''): 'mod deep;\npub use deep::passed;\npub const USED: u8 = 1;\
                          'trait Side { fn of() -> u8 ensures a { d }; }\nimpl Side for Rate { fn of() -> u8 { 2 } }\n'
                          'pub fn both<T: Side>() ensures a { e } { T::of() }',
         ('top', ''): 'use low::deep::Rate;\n#[unsafe(no_mangle)]\npub extern "C" fn top() -> u8\n'
-                     '    requires { x }\n    ensures a { y }\n{ low::passed(); low::low(3) + Rate::code(4) + low::deep::both::<Rate>() }\n'}
+                     '    requires { x }\n    ensures a { y }\n{ low::passed(); low::low(3) + Rate::code(4)'
+                     ' + low::deep::both::<Rate>() }\n'}
 WRONG = [
     (('low', ''), 'fn helper', 'fn dead() {}\nfn helper', 'low::dead: nothing reaches it'),
     (('low', ''), 'fn helper', 'const DEAD: u8 = 2;\nfn helper', 'low::DEAD: nothing reaches it'),
