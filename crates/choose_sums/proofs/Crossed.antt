@@ -46,22 +46,22 @@ neg_diff : (b d : ℤ) → neg_ℤ (b -ℤ d) ≡ neg_ℤ b +ℤ d
 neg_diff b d = neg_ℤ-+ℤ b (neg_ℤ d) ∙ ap (λ (z : ℤ). neg_ℤ b +ℤ z) (neg_ℤ-neg_ℤ d)
 
 module _ (a b c d e f g h : ℤ) where
-  shape0 : ((f +ℤ h) +ℤ (e -ℤ g)) +ℤ ((b -ℤ d) +ℤ (a +ℤ c))
+  pub shape0 : ((f +ℤ h) +ℤ (e -ℤ g)) +ℤ ((b -ℤ d) +ℤ (a +ℤ c))
       ≡ a +ℤ (b +ℤ (c +ℤ (neg_ℤ d +ℤ (e +ℤ (f +ℤ (neg_ℤ g +ℤ (h +ℤ pos 0)))))))
   shape0 = sum8 a b c (neg_ℤ d) e f (neg_ℤ g) h
 
-  shape1 : ((f +ℤ h) +ℤ (e -ℤ g)) -ℤ ((b -ℤ d) +ℤ (a +ℤ c))
+  pub shape1 : ((f +ℤ h) +ℤ (e -ℤ g)) -ℤ ((b -ℤ d) +ℤ (a +ℤ c))
       ≡ neg_ℤ a +ℤ (neg_ℤ b +ℤ (neg_ℤ c +ℤ (d +ℤ (e +ℤ (f +ℤ (neg_ℤ g +ℤ (h +ℤ pos 0)))))))
   shape1 =
       ap (λ (z : ℤ). ((f +ℤ h) +ℤ (e -ℤ g)) +ℤ z) (neg_ℤ-+ℤ (b -ℤ d) (a +ℤ c) ∙ (λ i. neg_diff b d i +ℤ neg_ℤ-+ℤ a c i))
       ∙ sum8 (neg_ℤ a) (neg_ℤ b) (neg_ℤ c) d e f (neg_ℤ g) h
 
-  shape2 : ((f +ℤ h) -ℤ (e -ℤ g)) +ℤ ((b -ℤ d) -ℤ (a +ℤ c))
+  pub shape2 : ((f +ℤ h) -ℤ (e -ℤ g)) +ℤ ((b -ℤ d) -ℤ (a +ℤ c))
       ≡ neg_ℤ a +ℤ (b +ℤ (neg_ℤ c +ℤ (neg_ℤ d +ℤ (neg_ℤ e +ℤ (f +ℤ (g +ℤ (h +ℤ pos 0)))))))
   shape2 = (λ i. ((f +ℤ h) +ℤ neg_diff e g i) +ℤ ((b -ℤ d) +ℤ neg_ℤ-+ℤ a c i))
       ∙ sum8 (neg_ℤ a) b (neg_ℤ c) (neg_ℤ d) (neg_ℤ e) f g h
 
-  shape3 : ((f +ℤ h) -ℤ (e -ℤ g)) -ℤ ((b -ℤ d) -ℤ (a +ℤ c))
+  pub shape3 : ((f +ℤ h) -ℤ (e -ℤ g)) -ℤ ((b -ℤ d) -ℤ (a +ℤ c))
       ≡ a +ℤ (neg_ℤ b +ℤ (c +ℤ (d +ℤ (neg_ℤ e +ℤ (f +ℤ (g +ℤ (h +ℤ pos 0)))))))
   shape3 =
       (λ i. ((f +ℤ h) +ℤ neg_diff e g i)

@@ -4,3 +4,4 @@ pub mod Eight
 pub mod Four
 pub mod KeyTops
 pub mod Signs
+pub mod AnyWidth

@@ -17,7 +17,7 @@ use Rattle.base.proofs.Puts.{puts, length_puts, puts_other, puts_at}
 
 -- ---- one column more
 -- the eight numbers of a butterfly of x and y, in the order of the writes
-abbrev outs : Counts → Counts → List ℤ
+abbrev pub outs : Counts → Counts → List ℤ
 outs x y =
     (y.i +ℤ x.i) ∷ (y.q +ℤ x.q) ∷ (y.i +ℤ x.q) ∷ (y.q -ℤ x.i) ∷ (y.i -ℤ x.i) ∷ (y.q -ℤ x.q)
     ∷ (y.i -ℤ x.q) ∷ (y.q +ℤ x.i) ∷ []

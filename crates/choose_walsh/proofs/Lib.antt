@@ -8,3 +8,4 @@ pub mod Scores
 pub mod Pairs
 pub mod Chosen
 pub mod Machine
+pub mod AnyWidth
