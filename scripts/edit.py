@@ -102,11 +102,11 @@ def function_at(path, old):
 def impl_at(text, at):
     """The folder of an impl's methods: `Type/`, or `TypeTraitArgument/` of a trait's; None where it is of another
     form."""
-    heads = re.findall(r'^impl (?:(\w+)(?:<(\w+)>)? for )?(\w+) \{$', text[:at], re.M)
+    heads = re.findall(r'^impl(?:<[^>]*>)? (?:(\w+)(?:<(\w+)>)? for )?(\w+)(?:<[^>]*>)? \{$', text[:at], re.M)
     if not heads or len(heads) != len(re.findall(r'^(?:impl|trait|pub trait)\b', text[:at], re.M)):
         return None
     trait, argument, of = heads[-1]
-    return of + trait + argument[:1].upper() + argument[1:] + '/'
+    return of[:1].upper() + of[1:] + trait + argument[:1].upper() + argument[1:] + '/'
 
 
 def edits_of(crates, name, folders=('must-fail', 'refused')):

@@ -4,7 +4,8 @@
 - A function or constant of crates/*/src that nothing reaches from an exported function (pub extern "C") or a program's
   main is a fault, unless DEAD names it with a reason.
 - A `pub fn` without an `ensures` is a fault, unless SILENT names it with a reason; those of programs too.
-Names in contracts do not count as reached: they are not code. Ends with status 1 if there is a fault; `--self-test`
+Names in contracts do not count as reached: they are not code. A trait's functions are those of its impls. Ends with
+status 1 if there is a fault; `--self-test`
 tries this script on small sources first.
 """
 import glob
@@ -16,8 +17,9 @@ DEAD = {}    # 'crate::module::name': why it stays although nothing reaches it
 SILENT = {}  # 'crate::module::name': why it has no statement of its result
 
 CLAUSE = re.compile(r'\b(requires|ensures|decreases|invariant|modifies)\b[^{}]*$')
-WORD = re.compile(r'(?<![\w.])((?:[A-Za-z_]\w*::)*[A-Za-z_]\w*)\s*(\(?)')
+WORD = re.compile(r'(?<![\w.])((?:[A-Za-z_]\w*::)*[A-Za-z_]\w*)\s*(?:::<[^>]*>)?\s*(\(?)')
 METHOD = re.compile(r'\.\s*([a-z_]\w*)\s*\(')
+HANDED = re.compile(r'\.\s*map\s*\(\s*([a-z_]\w*)\s*\)')
 
 
 def blanked(text):
@@ -67,13 +69,15 @@ def items_of(crate, module, text):
     owners = []
     for match in re.finditer(r'\bimpl(?:\s*<[^>]*>)?\s+(\w+)[^{;]*\{', text):
         owners.append((match.start(), end_of(text, match.end() - 1, '{', '}'), match[1]))
+    traits = [(match.start(), end_of(text, match.end() - 1, '{', '}'))
+              for match in re.finditer(r'\btrait\s+\w+[^{;]*\{', text)]
 
     def owner_at(at):
         return next((name for low, high, name in owners if low < at < high), '')
     found = []
     for match in re.finditer(r'(\bghost\s+)?(\bpub\s+)?(\bextern\s+"_*"\s+)?\bfn\s+(\w+)\s*(?:<[^>(]*>)?\s*\(', text):
-        if match[1]:
-            continue
+        if match[1] or any(low < match.start() < high for low, high in traits):
+            continue  # a trait's functions are those of its impls
         clauses, body = function_parts(text, match.end() - 1)
         name, root = match[4], bool(match[3]) or (match[4] == 'main' and module == '')
         promised = bool(re.search(r'\bensures\b', clauses))
@@ -149,12 +153,18 @@ def reached(items, imports):
         for path, bracket in WORD.findall(item.body):
             if '::' not in path and not bracket and not path.isupper():
                 continue
+            found = []
             for place in places(item.crate, item.module, path, imports, crates):
-                todo += by_place.get(place, [])
+                found += by_place.get(place, [])
                 if place[2]:
-                    todo += by_owner.get((item.owner if place[2] == 'Self' else place[2], place[3]), [])
+                    found += by_owner.get((item.owner if place[2] == 'Self' else place[2], place[3]), [])
+            # a function of a trait, called by a type parameter or by a type that has the trait
+            owned = '::' in path and path.split('::')[-2][0].isupper()
+            todo += found or (by_method.get(path.split('::')[-1], []) if owned else [])
         for name in METHOD.findall(item.body):
             todo += by_method.get(name, [])
+        for name in HANDED.findall(item.body):
+            todo += by_place.get((item.crate, item.module, '', name), [])
     return live
 
 
@@ -173,15 +183,20 @@ GOOD = {('low', ''): 'mod deep;\npub use deep::passed;\npub const USED: u8 = 1;\
                      'pub fn low(x: u8) -> u8\n    ensures a { result ≡ {x} dead }\n'
                      '{ helper(x) + USED } // dead()\nfn helper(x: u8) -> u8 { match x { _ => b"}dead()"[0] } }\n',
         ('low', 'deep'): 'pub fn passed() ensures a { b } { }\n'
-                         'impl Rate { pub fn code(self) -> u8 ensures a { c } { 1 } }',
+                         'impl Rate { pub fn code(self) -> u8 ensures a { c } { 1 } }\n'
+                         'trait Side { fn of() -> u8 ensures a { d }; }\nimpl Side for Rate { fn of() -> u8 { 2 } }\n'
+                         'pub fn both<T: Side>() ensures a { e } { T::of() }',
         ('top', ''): 'use low::deep::Rate;\n#[unsafe(no_mangle)]\npub extern "C" fn top() -> u8\n'
-                     '    requires { x }\n    ensures a { y }\n{ low::passed(); low::low(3) + Rate::code(4) }\n'}
+                     '    requires { x }\n    ensures a { y }\n{ low::passed(); low::low(3) + Rate::code(4)'
+                     ' + low::deep::both::<Rate>() }\n'}
 WRONG = [
     (('low', ''), 'fn helper', 'fn dead() {}\nfn helper', 'low::dead: nothing reaches it'),
     (('low', ''), 'fn helper', 'const DEAD: u8 = 2;\nfn helper', 'low::DEAD: nothing reaches it'),
     (('top', ''), 'low::low(3) + ', '', 'low::low: nothing reaches it'),
     (('top', ''), 'low::passed(); ', '', 'low::deep::passed: nothing reaches it'),
     (('top', ''), ' + Rate::code(4)', '', 'low::deep::Rate::code: nothing reaches it'),
+    (('low', 'deep'), 'T::of()', '3', 'low::deep::Side::of: nothing reaches it'),
+    (('top', ''), ' + low::deep::both::<Rate>()', '', 'low::deep::both: nothing reaches it'),
     (('low', 'deep'), 'ensures a { c } ', '', 'low::deep::Rate::code: public, and nothing says what it answers'),
 ]
 

@@ -32,8 +32,8 @@ pub record AllUsable (rec : List Taken) (at n : ℕ) : Type 0 where
 -- definition's
 -- rule: 3.5 to 3.7, 3.9
 -- code: choose_by_counts::decide_barker, choose_by_counts::decide_five, choose_by_units::decide_barker,
--- choose_by_units::decide_five, choose_words::barker, choose_words::five, choose_walsh_bytes::sixteen,
--- choose_walsh_counts::sixteen, choose_recorders::decide
+-- choose_by_units::decide_five, choose_words::barker, choose_words::five, choose_search::sixteen,
+-- choose_recorders::decide
 -- with: LeadsAt
 pub record DecidedAt (r : Rate) (rec : List Taken) (at m : ℕ) (numbers : List ℕ) : Type 0 where
   pub long : length numbers ≡ 64

@@ -4,7 +4,7 @@
 // front, and no step looks at an entry that it has written.
 #![tactic(auto)]
 
-ghost use Rattle.std.specs.Prelude.{false, List, ◌≡◌, ℕ, ◌+◌, ◌*◌, ◌/◌, ◌%◌, ◌≤◌, ◌<◌, min, length, get_or};
+ghost use Rattle.std.specs.Prelude.{false, List, ◌≡◌, ℕ, ◌+◌, ◌*◌, ◌/◌, ◌%◌, ◌≤◌, ◌<◌, length, get_or};
 ghost use Rattle.std.specs.List.{All};
 ghost use Rattle.rules_chips.specs.Chips.{Taken, hard_recording};
 ghost use Rattle.find_sweep.specs.Sweep.{side_of, half_of_sides, Sides, half_at, Row, Added, half_of};
@@ -81,13 +81,6 @@ fn halves_from(octets: &[u8], at: usize, l: usize, count: usize, halves: &mut [u
     let mut odds = [0u8; 144];
     sides(octets, at, count + 16, &mut evens, &mut odds);
     fill(&evens, &odds, l, count, halves);
-}
-
-// How many of the places or offsets that are left go at once.
-pub fn at_most(left: usize, most: usize) -> usize
-    ensures answer { result ≡ min left most }
-{
-    left.min(most)
 }
 
 // The halves at every chip from a place on, count of them, of which the first so many are known.

@@ -109,7 +109,16 @@ pub fn hear_octets(
         let place = at + chips * k;
         let number = symbol + symbols * k;
         let before = part.heard;
-        let more = hear_block(rec, rate, place, number, before.line, part.least, count, &mut out[k..]);
+        let more = hear_block(
+            rec,
+            rate,
+            place,
+            number,
+            before.line,
+            part.least,
+            count,
+            &mut out[k..],
+        );
         part = joined(before, more);
         k += count;
     }

@@ -1,10 +1,9 @@
 -- The order of refusals: for each way out of reading a payload and a whole recording, what the definition says there.
 -- Each follows by the tests that led there. Assumes nothing.
-use Rattle.std.specs.Prelude.{Result, Ok, Err}
 use mathlib.Core.Path.{◌≡◌, refl, sym, ap, ◌∙◌, subst}
 use mathlib.Core.Bool.{Bool, true, false}
 use mathlib.Core.List.{List}
-use Rattle.std.specs.Prelude.{Option, None, Some}
+use Rattle.std.specs.Prelude.{Option, None, Some, Result, Err}
 use Prim.Native.Nat.{ℕ, ◌-◌, ◌*◌, ◌≤◌, ◌<◌}
 use native.Mathlib.Omega.{arith}
 use lib.ListN.{length, take, drop, replicate}
@@ -35,8 +34,6 @@ use Rattle.rules_reading.specs.Guides.{reading1997, octets1997}
 use Rattle.rules_reading.specs.Leads.{frame_leads, least_of}
 use Rattle.choose_recorded.specs.Recorded.{AllUsable}
 use Rattle.choose_recorded.proofs.Search.{none_usable}
-use Rattle.read_fronts.specs.declared.Opening.{Opening}
-use Rattle.read_fronts.specs.Openings.{OpensWhole}
 use Rattle.read_frames.specs.Payloads.{octets_heard, after_heard}
 
 -- ---- the payload
@@ -87,19 +84,6 @@ module _ (k : Kind) (t : Told) (rec : List Taken) (room : ℕ) where
       let tests : after_heard t all b o ≡ payload_reading k t rec room =
       rw (← s.whole, ← s.at_front, le-ltb room t.n s.fits, ← s.is, e, ← p, ← l) in
       (w ∙ tests, rw w (q ∙ left all b o))
-
--- ---- a recording of a kind, by who reads
-
-module _ (accepted : Accepted) (k : Kind) (rec : List Taken) (room : ℕ) (o : Opening) (x : OpensWhole accepted k rec o)
-  where
-    pub as_refused : (w : Refusal) (out : List ℕ) → o.front ≡ Err w → out ≡ replicate room 0
-        → (Err w ≡ reading_by accepted k rec room) × (out ≡ octets_after k rec room (Err w))
-    as_refused w out t z = (rw (← x.told, t), z)
-
-    pub as_told : (t : Told) (g : Result Reading Refusal) (out : List ℕ) → o.front ≡ Ok t
-        → (g ≡ payload_reading k t rec room) × (out ≡ octets_after k rec room g)
-        → (g ≡ reading_by accepted k rec room) × (out ≡ octets_after k rec room g)
-    as_told t g out w p = (p.0 ∙ rw (← x.told, w), p.1)
 
 -- ---- the whole
 

@@ -1,9 +1,7 @@
 -- What a payload heard leaves in the octet buffer, and what it comes to. Definitions only. Assumes nothing.
 -- working notion: of the code that reads a payload; no promise needs it
-use Rattle.std.specs.Prelude.{Result, Ok, Err}
 use Rattle.rules_calls.specs.declared.Refusal.{Refusal}
-use Rattle.std.specs.Prelude.{List, ◌++◌, ℕ, ◌-◌, replicate}
-use Rattle.std.specs.Prelude.{Option, None, Some}
+use Rattle.std.specs.Prelude.{List, ◌++◌, ℕ, ◌-◌, replicate, Option, None, Some, Result, Ok, Err}
 use Rattle.rules_rates.specs.declared.Rate.{Rate}
 use Rattle.rules_chips.specs.Chips.{Taken}
 use Rattle.rules_frame.specs.declared.Kind.{Kind}

@@ -25,14 +25,7 @@ fn read_as(by: Reader, kind: Kind, rec: Recording, octets: &mut [u8]) -> Result<
     let opening = read_fronts::read_whole(by, rec, kind);
     match opening.front {
         Err(e) => Err(e),
-        Ok(t) => payload::read_payload(
-            rec,
-            kind,
-            t,
-            opening.line,
-            opening.least,
-            octets,
-        ),
+        Ok(t) => payload::read_payload(rec, kind, t, opening.line, opening.least, octets),
     }
 }
 

@@ -7,7 +7,7 @@ ghost use Rattle.rules_reading.specs.Leads.{front_leads, frame_leads, least_of};
 ghost use Rattle.choose_recorders.specs.Rows.{taken_of};
 ghost use Rattle.choose_recorded.specs.Recorded.{AllUsable};
 ghost use Rattle.read_fronts.specs.Openings.{Opened};
-ghost use Rattle.read_frames.specs.Payloads.{octets_heard, after_heard};
+ghost use Rattle.read_frames.specs.Payloads.{octets_heard};
 
 use choose_recorders::Recording;
 use common_lines::Line;

@@ -3,14 +3,13 @@
 use Rattle.std.specs.Prelude.{Result, Ok, Err}
 use mathlib.Core.Path.{◌≡◌, sym, subst, ◌∙◌}
 use mathlib.Core.List.{List}
-use Prim.Native.Nat.{ℕ, ◌≤◌, ◌<◌}
+use Prim.Native.Nat.{ℕ, ◌≤◌}
 use native.Mathlib.Omega.{arith}
 use lib.ListN.{length}
-use borrow.Author.Tests.{lt-ltb, le-ltb}
+use borrow.Author.Tests.{le-ltb}
 use Rattle.rules_chips.specs.Chips.{Taken}
 use Rattle.rules_frame.specs.declared.Kind.{Kind}
 use Rattle.rules_calls.specs.declared.Refusal.{Refusal}
-use Rattle.rules_calls.specs.declared.Refusal.TheVariants.{OddGrowth, Ends}
 use Rattle.rules_calls.specs.declared.Told.{Told}
 use Rattle.rules_frame.specs.Frame.{frame_chips}
 use Rattle.rules_calls.specs.Answers.{refusal_number}
@@ -56,9 +55,6 @@ header_few accepted k sfd header t e = by (header_comes accepted k sfd header) e
     by (crc_other a b) w = told_not _ _ t w
     by (fields_behind a b f) w = fields f w
 
-pub refused_few : (f : Result Told Refusal) (e : Refusal) → f ≡ Err e → (t : Told) → f ≡ Ok t → t.n ≤ 4095
-refused_few f e g t w = told_not _ e t (sym g ∙ w)
-
 -- ---- 10 to 15
 
 abbrev pub Late : Refusal → Type 0
@@ -83,10 +79,6 @@ header_late accepted k sfd header e w = by (header_comes accepted k sfd header) 
     by (crc_other a b) v = refused_same _ e (omega arith, omega arith) v
     by (fields_behind a b f) v = fields f v
 
-pub odd_late : (f : Result Told Refusal) (place length : ℕ) → f ≡ Err (OddGrowth place length) → (e : Refusal) → f ≡ Err e
-    → Late e
-odd_late f place length g e w = refused_same (OddGrowth place length) e (omega arith, omega arith) (sym g ∙ w)
-
 -- ---- 16
 
 -- an opening that refuses needs neither line nor lead nor sizes
@@ -105,19 +97,9 @@ opens_none accepted k rec o e p q =
 
 module _ (accepted : Accepted) (k : Kind) (rec : List Taken) (a : Opening) (x : Opens k rec (front_by accepted k rec) a)
   where
-    pub whole_refused : (o : Opening) (e : Refusal) → a.front ≡ Err e → o.front ≡ Err e
-        → OpensWhole accepted k rec o
-    whole_refused o e f p = opens_none accepted k rec o e p (rw (← x.told, f))
-
     module _ (t : Told) (f : a.front ≡ Ok t) where
       pub whole_few : t.n ≤ 4095
       whole_few = front_few accepted k rec t (sym x.told ∙ f)
-
-      pub whole_ends : (o : Opening) → length rec < frame_chips k t.rate t.n
-          → o.front ≡ Err (Ends t.length) → OpensWhole accepted k rec o
-      whole_ends o h p =
-          opens_none accepted k rec o (Ends t.length) p
-          (rw (← x.told, f, lt-ltb (length rec) (frame_chips k t.rate t.n) h))
 
       pub whole_kept : frame_chips k t.rate t.n ≤ length rec → OpensWhole accepted k rec a
       whole_kept h = record {

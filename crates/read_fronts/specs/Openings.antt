@@ -1,9 +1,8 @@
 -- What is known of a line and of leads once a preamble and a front are heard, and of a front once it is read.
 -- Definitions only. Assumes nothing.
 -- working notion: of the code that reads a front; no promise needs it
-use Rattle.std.specs.Prelude.{Result, Ok, Err}
 use Rattle.rules_calls.specs.declared.Refusal.{Refusal}
-use Rattle.std.specs.Prelude.{◌≡◌, List, ℕ, ◌+◌, ◌≤◌, ◌<◌, length, take, drop}
+use Rattle.std.specs.Prelude.{◌≡◌, List, ℕ, ◌+◌, ◌≤◌, ◌<◌, length, take, drop, Result, Ok, Err}
 use Rattle.rules_rates.specs.declared.Rate.TheVariants.{One}
 use Rattle.rules_chips.specs.Chips.{Taken}
 use Rattle.rules_bits.specs.Bits.{octet_bits, octets_of}

@@ -1,8 +1,7 @@
 -- What a header tells, from its bits, by who reads: refusals 11 to 15, in this order (RULES 5.8 to 5.14, 6.4, 6.30).
 -- Definitions only. Assumes nothing.
-use Rattle.std.specs.Prelude.{Result, Ok, Err}
 use Rattle.rules_calls.specs.declared.Refusal.{Refusal}
-use Rattle.std.specs.Prelude.{ℕ, ◌/◌, ◌%◌, Bool, true, false, cond, not, ◌&&◌, ◌||◌, List, [], ◌∷◌, take, drop, eqb, nat_abs}
+use Rattle.std.specs.Prelude.{ℕ, ◌/◌, ◌%◌, Bool, true, false, cond, not, ◌&&◌, ◌||◌, List, [], ◌∷◌, take, drop, eqb, nat_abs, Result, Ok, Err}
 use Rattle.rules_rates.specs.declared.Rate.{Rate}
 use Rattle.rules_rates.specs.declared.Rate.TheVariants.{One, Two, Five, Eleven}
 use Rattle.rules_rates.specs.Rates.{is_code, rate_of, octets_read, length_holds}

@@ -24,7 +24,7 @@ use Rattle.rules_reading.specs.Leads.{decided_leads}
 use Rattle.rules_reading.specs.Reading.{first_unusable, decided_words}
 use Rattle.rules_bits.specs.Code.{words_chips}
 use Rattle.rules_clean.specs.Clean.{clean_taken, clean_recording}
-use Rattle.rules_bits.proofs.Sent.{Allowed, none, more}
+use Rattle.rules_bits.proofs.Sent.{Allowed, more}
 
 counts_clean : (w : List ℕ) → map taken_counts (map clean_taken w) ≡ map (full_chip 1024) w
 counts_clean [] = refl

@@ -1,10 +1,9 @@
 -- What is coming, from a recording's front only (RULES 6.15): the answer, and the part of the recording that holds the
 -- payload's chips.
 -- Definitions only. Assumes nothing.
-use Rattle.std.specs.Prelude.{Result, Ok, Err}
 use Rattle.rules_calls.specs.declared.Told.{Told}
 use Rattle.rules_calls.specs.declared.Refusal.{Refusal}
-use Rattle.std.specs.Prelude.{ℕ, ◌+◌, ◌-◌, cond, not, List, [], length, take, drop, ltb}
+use Rattle.std.specs.Prelude.{ℕ, ◌+◌, ◌-◌, cond, not, List, [], length, take, drop, ltb, Result, Ok, Err}
 use Rattle.rules_rates.specs.Rates.{code_of}
 use Rattle.rules_chips.specs.Chips.{Taken}
 use Rattle.rules_frame.specs.declared.Kind.{Kind}

@@ -1,9 +1,8 @@
 -- Two hard recordings of one kind compared (RULES 6.29): the answer, and the octets that differ. Each recording is read
 -- as any other, with room of its own; the chips are compared whatever comes of that.
 -- Definitions only. Assumes nothing.
-use Rattle.std.specs.Prelude.{Result, Ok, Err}
 use Rattle.rules_calls.specs.declared.Refusal.{Refusal}
-use Rattle.std.specs.Prelude.{ℕ, true, List, [], length}
+use Rattle.std.specs.Prelude.{ℕ, true, List, [], length, Result, Ok, Err}
 use Rattle.rules_chips.specs.Chips.{Taken, hard_recording}
 use Rattle.rules_frame.specs.declared.Kind.{Kind}
 use Rattle.rules_frame.specs.Frame.{kind_of}

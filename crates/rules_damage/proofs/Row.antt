@@ -25,7 +25,7 @@ use Rattle.rules_symbols.specs.Words.{word_of}
 use Rattle.rules_symbols.specs.Choice.{decided, lead_of, numbers, is_allowed}
 use Rattle.rules_symbols.proofs.Words.{word_length}
 use Rattle.rules_bits.specs.Code.{words_chips}
-use Rattle.rules_bits.proofs.Sent.{Allowed, none, more}
+use Rattle.rules_bits.proofs.Sent.{Allowed, more}
 use Rattle.rules_reading.specs.Reading.{first_unusable, decided_words}
 use Rattle.rules_reading.specs.Leads.{decided_leads}
 use Rattle.rules_damage.specs.Damage.{wrong, lost}

@@ -1,11 +1,10 @@
 -- Starts found, computed from the definition and compared with RULES 6.17: number, offset, rate code, LENGTH, the clock
 -- bit and n. The frame is the short one of reading's facts: an octet at 11 Mbit/s (LENGTH 1; 1,056 + 8 chips).
 -- Assumes nothing.
-use Rattle.std.specs.Prelude.{Ok}
 use mathlib.Core.Path.{◌≡◌, refl}
 use mathlib.Core.Bool.{true, false}
 use mathlib.Core.List.{List, [], ◌∷◌, ◌++◌}
-use Rattle.std.specs.Prelude.{Result, Err}
+use Rattle.std.specs.Prelude.{Result, Err, Ok}
 use Prim.Native.Nat.{ℕ}
 use lib.ListN.{take, replicate}
 use Rattle.rules_rates.specs.declared.Rate.TheVariants.{One, Two, Five, Eleven}

@@ -4,10 +4,9 @@
 -- them. The long frame carries A5h and 3Ch at 1 Mbit/s and has the clock bit set (LENGTH 16; 2,112 + 176 chips), the
 -- short one 3Dh at 11 Mbit/s and has neither bit set (LENGTH 1; 1,056 + 8 chips). What a header with a right CRC is
 -- refused for stands in `rules_calls`, HeaderFacts. Assumes nothing.
-use Rattle.std.specs.Prelude.{Ok}
 use mathlib.Core.Path.{◌≡◌, refl}
 use mathlib.Core.Bool.{Bool, true, false}
-use Rattle.std.specs.Prelude.{None, Some}
+use Rattle.std.specs.Prelude.{None, Some, Ok}
 use mathlib.Core.List.{List, [], ◌∷◌, ◌++◌, map}
 use Prim.Native.Nat.{ℕ, ◌+◌, ◌%◌}
 use lib.ListN.{take, drop, set, replicate}

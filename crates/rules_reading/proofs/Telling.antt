@@ -1,12 +1,11 @@
 -- What a front tells, where it is not refused: a rate of the kind, 1 to 4,095 octets, and their LENGTH; and where 16 is
 -- not given either, that the recording has the frame's chips. It is the header's own law (`header_only` of
 -- rules_calls), behind the tests before it. Assumes nothing.
-use Rattle.std.specs.Prelude.{Result, Ok, Err}
 use Rattle.rules_calls.specs.declared.Refusal.{Refusal}
 use mathlib.Core.Path.{◌≡◌, refl, ◌∙◌}
 use mathlib.Core.Bool.{Bool, true, false, cond}
 use mathlib.Core.List.{List}
-use Rattle.std.specs.Prelude.{Option, None, Some}
+use Rattle.std.specs.Prelude.{Option, None, Some, Result, Ok, Err}
 use Prim.Native.Nat.{ℕ, ◌≤◌}
 use lib.Dec.{ltb, nltb→le}
 use lib.ListN.{length, take}

@@ -1,9 +1,8 @@
 -- Reading as the guides of 1997 read (RULES 6.30): every front is long, so no kind is asked for, and a header is
 -- accepted if such a guide accepts it. All else is reading itself (Reading.antt).
 -- Definitions only. Assumes nothing.
-use Rattle.std.specs.Prelude.{Result}
 use Rattle.rules_calls.specs.declared.Refusal.{Refusal}
-use Rattle.std.specs.Prelude.{ℕ, List}
+use Rattle.std.specs.Prelude.{ℕ, List, Result}
 use Rattle.rules_chips.specs.Chips.{Taken}
 use Rattle.rules_frame.specs.declared.Kind.TheVariants.{Long}
 use Rattle.rules_calls.specs.declared.Reading.{Reading}

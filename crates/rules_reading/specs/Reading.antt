@@ -2,10 +2,8 @@
 -- (RULES 2.7, 6.2 to 6.10, 6.12, 6.30). The order is 1, 7, 8, then 9 and 10 over the front, 11, 12, 13, 14, 15, 16,
 -- 17, then 9 and 10 over the payload; in each part 9 is looked for through the whole part before 10.
 -- Definitions only. Assumes nothing.
-use Rattle.std.specs.Prelude.{Result, Ok, Err}
 use Rattle.rules_calls.specs.declared.Refusal.{Refusal}
-use Rattle.std.specs.Prelude.{ℕ, zero, suc, ◌+◌, ◌-◌, ◌*◌, ◌/◌, ◌%◌, Bool, cond, not, List, [], ◌∷◌, ◌++◌, map, length, get_or, take, drop, replicate, eqb, ltb}
-use Rattle.std.specs.Prelude.{Option, None, Some}
+use Rattle.std.specs.Prelude.{ℕ, zero, suc, ◌+◌, ◌-◌, ◌*◌, ◌/◌, ◌%◌, Bool, cond, not, List, [], ◌∷◌, ◌++◌, map, length, get_or, take, drop, replicate, eqb, ltb, Option, None, Some, Result, Ok, Err}
 use Rattle.rules_rates.specs.declared.Rate.{Rate}
 use Rattle.rules_rates.specs.declared.Rate.TheVariants.{One, Two, Five, Eleven}
 use Rattle.rules_rates.specs.Rates.{symbol_chips, symbol_bits}

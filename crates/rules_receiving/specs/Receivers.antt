@@ -1,9 +1,7 @@
 -- What a receiver and the octet buffer are once so many chips have been fed.
 -- Definitions only. Assumes nothing.
 -- working notion: of the calls of a receiver; the promises are of the calls one after the other
-use Rattle.std.specs.Prelude.{Ok, Err}
-use Rattle.std.specs.Prelude.{◌≡◌, true, false, List, ℕ, suc, ◌≤◌, ◌<◌, length, take}
-use Rattle.std.specs.Prelude.{Option, None, Some}
+use Rattle.std.specs.Prelude.{◌≡◌, true, false, List, ℕ, suc, ◌≤◌, ◌<◌, length, take, Option, None, Some, Ok, Err}
 use Rattle.rules_rates.specs.Rates.{code_of}
 use Rattle.rules_chips.specs.Chips.{Taken, hard_recording}
 use Rattle.rules_bits.specs.Bits.{octets_of}

@@ -1,10 +1,8 @@
 -- Reading as the chips arrive: what the octet buffer holds until close, over the list of all chips fed so far and in
 -- the words of a whole reading (RULES 6.31).
 -- Definitions only. Assumes nothing.
-use Rattle.std.specs.Prelude.{Result, Ok, Err}
 use Rattle.rules_calls.specs.declared.Refusal.{Refusal}
-use Rattle.std.specs.Prelude.{cond, not, List, ◌++◌, ℕ, ◌-◌, ◌/◌, ltb, length, take, drop, replicate}
-use Rattle.std.specs.Prelude.{Option}
+use Rattle.std.specs.Prelude.{cond, not, List, ◌++◌, ℕ, ◌-◌, ◌/◌, ltb, length, take, drop, replicate, Result, Ok, Err, Option}
 use Rattle.rules_rates.specs.declared.Rate.{Rate}
 use Rattle.rules_rates.specs.Rates.{symbol_chips, octet_chips}
 use Rattle.rules_chips.specs.Chips.{Taken}

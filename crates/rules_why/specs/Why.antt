@@ -1,8 +1,7 @@
 -- Why a read of a hard recording is refused (RULES 6.22): its number, its place, what was expected and what was found.
 -- Each number that is shown is one that reading itself goes by.
 -- Definitions only. Assumes nothing.
-use Rattle.std.specs.Prelude.{Result, Ok, Err}
-use Rattle.std.specs.Prelude.{ℕ, ◌-◌, ◌*◌, ◌/◌, ◌%◌, true, cond, List, length, get_or, take, drop, ℤ, nat_abs}
+use Rattle.std.specs.Prelude.{ℕ, ◌-◌, ◌*◌, ◌/◌, ◌%◌, true, cond, List, length, get_or, take, drop, ℤ, nat_abs, Result, Ok, Err}
 use Rattle.rules_rates.specs.declared.Rate.{Rate}
 use Rattle.rules_rates.specs.declared.Rate.TheVariants.{One, Two, Five, Eleven}
 use Rattle.rules_rates.specs.Rates.{rate_of, length_field, octets_read, is_payload}

@@ -2,9 +2,8 @@
 -- front, and growths over a block of symbols.
 -- Definitions only. Assumes nothing.
 -- working notion: of the code that says why; no promise needs it
-use Rattle.std.specs.Prelude.{Result}
 use Rattle.rules_calls.specs.declared.Told.{Told}
-use Rattle.std.specs.Prelude.{◌≡◌, List, ℕ, ◌/◌, ◌%◌, ◌<◌, take, drop}
+use Rattle.std.specs.Prelude.{◌≡◌, List, ℕ, ◌/◌, ◌%◌, ◌<◌, take, drop, Result}
 use Rattle.rules_rates.specs.declared.Rate.TheVariants.{One}
 use Rattle.rules_rates.specs.Rates.{rate_of, octets_read}
 use Rattle.rules_chips.specs.Chips.{hard_recording}

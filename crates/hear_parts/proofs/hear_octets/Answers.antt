@@ -1,9 +1,9 @@
 -- `hear_octets`: before the loop nothing is heard; a turn hears a block more; at the end all octets are.
-use mathlib.Core.Path.{◌≡◌, refl, sym, ap, subst, ◌∙◌}
-use Prim.Native.Nat.{ℕ, ◌+◌, ◌-◌, ◌*◌, ◌≤◌, ◌<◌}
+use mathlib.Core.Path.{◌≡◌}
+use Prim.Native.Nat.{ℕ, ◌+◌, ◌-◌, ◌*◌, ◌<◌}
 use native.Mathlib.Nat.{mul-zero, add-zero}
 use native.Mathlib.Omega.{arith}
-use lib.ListN.{length, length-drop}
+use lib.ListN.{length-drop}
 use Rattle.base.proofs.Over.{lent}
 use Rattle.rules_rates.specs.declared.Rate.{Rate}
 use Rattle.rules_rates.specs.Rates.{octet_chips}
@@ -58,8 +58,8 @@ loop-k-preserved c =
     let m = c.hear_block-more.ensures in
     let j = c.joined-part.ensures in
     let more : Parts a.rate a.at (taken_of a.rec) a.line a.symbol a.least a.out.now c.joined-part.result
-      (a.at + octet_chips a.rate * c.loop-k.k + c.octet_chips-chips.result * c.block_octets-count.result)
-      (c.loop-k.k + c.block_octets-count.result) _ =
+    (a.at + octet_chips a.rate * c.loop-k.k + c.octet_chips-chips.result * c.block_octets-count.result)
+    (c.loop-k.k + c.block_octets-count.result) _ =
     parts_more _ _ _ _ _ _ _ _ _ _ _ _ s b w _ _ _ _ _ (rw e at m.answer) (rw e at m.least) (rw e at m.out)
     (j.line, (j.odd, j.least)) e c.octet_symbols-symbols.ensures.answer in
     rw (next a.rate a.at c.loop-k.k c.block_octets-count.result) (rw e at more)
