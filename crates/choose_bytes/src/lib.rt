@@ -68,6 +68,8 @@ fn sixteen_fives(row: &[i8], l: usize, numbers: &mut [u8; 64], raw: &mut [u16; 6
 }
 
 // m Barker symbols from a place.
+// Neither it nor the two loops below are inlined: choose_recorders says why, at `decide`.
+#[inline(never)]
 pub fn barkers(bytes: &[i8], at: usize, m: usize, numbers: &mut [u8; 64], leads: &mut [u32; 64])
     requires { (m ≤ 64) × (at + 11 * m ≤ length bytes.now / 2) × (length numbers.old ≡ 64)
         × (length leads.old ≡ 64) }
@@ -89,6 +91,7 @@ pub fn barkers(bytes: &[i8], at: usize, m: usize, numbers: &mut [u8; 64], leads:
 }
 
 // m symbols of 5.5 Mbit/s from a place.
+#[inline(never)]
 pub fn fives(bytes: &[i8], at: usize, m: usize, numbers: &mut [u8; 64], leads: &mut [u32; 64])
     requires { (m ≤ 64) × (at + 8 * m ≤ length bytes.now / 2) × (length numbers.old ≡ 64)
         × (length leads.old ≡ 64) }
@@ -110,6 +113,7 @@ pub fn fives(bytes: &[i8], at: usize, m: usize, numbers: &mut [u8; 64], leads: &
 }
 
 // m symbols of 11 Mbit/s from a place.
+#[inline(never)]
 pub fn elevens(bytes: &[i8], at: usize, m: usize, numbers: &mut [u8; 64], leads: &mut [u32; 64])
     requires { (m ≤ 64) × (at + 8 * m ≤ length bytes.now / 2) × (length numbers.old ≡ 64)
         × (length leads.old ≡ 64) }

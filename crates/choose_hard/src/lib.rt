@@ -46,6 +46,8 @@ fn symbol<const N: usize>(octets: &[u8], at: usize) -> [Chip; N]
 }
 
 // m Barker symbols from a place.
+// Neither it nor the two loops below are inlined: choose_recorders says why, at `decide`.
+#[inline(never)]
 pub fn barkers(octets: &[u8], at: usize, m: usize, numbers: &mut [u8; 64], leads: &mut [u32; 64])
     requires { (m ≤ 64) × (at + 11 * m ≤ length octets.now)
         × (length numbers.old ≡ 64) × (length leads.old ≡ 64) }
@@ -62,6 +64,7 @@ pub fn barkers(octets: &[u8], at: usize, m: usize, numbers: &mut [u8; 64], leads
 }
 
 // m symbols of 5.5 Mbit/s from a place.
+#[inline(never)]
 pub fn fives(octets: &[u8], at: usize, m: usize, numbers: &mut [u8; 64], leads: &mut [u32; 64])
     requires { (m ≤ 64) × (at + 8 * m ≤ length octets.now)
         × (length numbers.old ≡ 64) × (length leads.old ≡ 64) }
@@ -95,6 +98,7 @@ fn columns(octets: &[u8], at: usize, count: usize, row: &mut [i8])
 }
 
 // m symbols of 11 Mbit/s from a place, sixteen abreast.
+#[inline(never)]
 pub fn elevens(octets: &[u8], at: usize, m: usize, numbers: &mut [u8; 64], leads: &mut [u32; 64])
     requires { (m ≤ 64) × (at + 8 * m ≤ length octets.now)
         × (length numbers.old ≡ 64) × (length leads.old ≡ 64) }

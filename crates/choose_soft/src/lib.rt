@@ -54,6 +54,8 @@ fn symbol<const N: usize>(i: &[f32], q: &[f32], at: usize) -> [Chip; N]
 }
 
 // m Barker symbols from a place.
+// Neither it nor the two loops below are inlined: choose_recorders says why, at `decide`.
+#[inline(never)]
 pub fn barkers(
     i: &[f32],
     q: &[f32],
@@ -78,6 +80,7 @@ pub fn barkers(
 }
 
 // m symbols of 5.5 Mbit/s from a place.
+#[inline(never)]
 pub fn fives(
     i: &[f32],
     q: &[f32],
@@ -122,6 +125,7 @@ fn columns(i: &[f32], q: &[f32], at: usize, count: usize, row: &mut [i32])
 }
 
 // m symbols of 11 Mbit/s from a place, sixteen abreast.
+#[inline(never)]
 pub fn elevens(
     i: &[f32],
     q: &[f32],
