@@ -99,12 +99,15 @@ pub fn decide(octets: &[u8], at: usize, known: usize, count: usize, halves: &mut
     }
 }
 
-// The row's second half to its front: what stood 256 places on stands there.
+// The row's second half to its front: what stood 256 places on stands there. By `copy_within` the archive would want a
+// memmove of the host.
 pub fn advance(halves: &mut [u8; 512])
     requires { length halves.old ≡ 512 }
     ensures halves { Row (λ j. get_or halves.old (j + 256) 0) 256 halves.new }
 {
-    halves.copy_within(256.., 0);
+    for l in 0..256 {
+        halves[l] = halves[l + 256];
+    }
 }
 
 // ---- bits, unscrambled, four at a time
