@@ -8,6 +8,16 @@ use super::{Piece, Taking};
 use rules_rates::Rate;
 use rules_receiving::Ear;
 
+// A row copied. By `copy_from_slice` the archive would want a memmove of the host, which has none.
+fn copy(from: &[u8], to: &mut [u8])
+    requires { length from.now ≡ length to.old }
+    ensures to { to.new ≡ from.now }
+{
+    for k in 0..from.len() {
+        to[k] = from[k];
+    }
+}
+
 // Chips behind the h that are held, up to the end of their octet: it is heard if it is whole then.
 fn join(start: Start, h: usize, hold: &mut [u8], piece: &[u8], octet: &mut [u8]) -> Piece
     requires { (h + length piece.now ≤ octet_chips start.rate) × (length octet.old ≡ 1) × (length hold.old ≡ 88)
@@ -16,7 +26,7 @@ fn join(start: Start, h: usize, hold: &mut [u8], piece: &[u8], octet: &mut [u8])
         hold.new octet.new }
 {
     let n = h + piece.len();
-    hold[h..n].copy_from_slice(piece);
+    copy(piece, &mut hold[h..n]);
     let row = &hold[..n];
     if n == start.rate.octet_chips() {
         return start.hear_whole(row, octet);

@@ -8,7 +8,7 @@ pub returns-then-n-octet_chips : goal.returns-then-n-octet_chips
 returns-then-n-octet_chips c =
     let a = c.args in
     let r : a.h + length a.piece.now ≤ length a.hold.now = omega (arith, c.requires.0, c.requires.2, chips_most a.start.rate) in
-    let y = c.copy_from_slice.ensures.after in
+    let y = c.copy.ensures.to in
     record {
       answer = joined_whole a.start.rate a.start.at a.start.symbol a.start.ear a.h a.hold.now a.piece.now a.octet.now
           c.hear_whole.result _ _ _ (hold_joined a.hold.now a.piece.now _ a.h _ refl r y)
@@ -20,7 +20,7 @@ pub returns : goal.returns
 returns c =
     let a = c.args in
     let r : a.h + length a.piece.now ≤ length a.hold.now = omega (arith, c.requires.0, c.requires.2, chips_most a.start.rate) in
-    let y = c.copy_from_slice.ensures.after in
+    let y = c.copy.ensures.to in
     record {
       answer = joined_part a.start.rate a.start.at a.start.symbol a.start.ear a.h a.hold.now a.piece.now a.octet.now
           c.hold_part.result _ _ _ (hold_joined a.hold.now a.piece.now _ a.h _ refl r y)
