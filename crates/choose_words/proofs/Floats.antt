@@ -1,20 +1,21 @@
 -- Laws of keys as f32: their order is that of the keys, and the key comes back.
 -- Assumes nothing.
-use mathlib.Core.Path.{◌≡◌, refl, sym, ◌∙◌, subst}
+use mathlib.Core.Path.{◌≡◌, refl, sym, ap, ◌∙◌, subst}
 use mathlib.Core.Bool.{Bool, true, false, cond}
 use Prim.Native.Nat.{ℕ, ◌*◌, ◌≤◌, ◌<◌}
 use native.Mathlib.Decide.{dec_lt}
 use native.Mathlib.Omega.{arith}
 use borrow.Author.Tests.{lt-ltb, le-ltb}
 use lib.Dec.{T, ltb, lit<, le→leb}
-use lib.IntN.{pos}
+use lib.IntN.{pos, nat_abs}
+use lib.Signed.{non_neg}
 use lib.Ieee.{Float, nan, inf, fin, binary32, up, down, lt, of_int, in_float, in_signed, to_signed}
 use lib.Ieee.Fits.{down_pos}
 use lib.Ieee.Exact.{HasValue}
 use lib.Ieee.Order.{transfer}
 use lib.Ieee.Back.{round_whole, positive_back}
 use Rattle.rules_choosing.specs.Keys.{bigger, lesser}
-use Rattle.choose_words.specs.Floats.{key_float, larger_float, smaller_float}
+use Rattle.choose_words.specs.Floats.{key_float, larger_float, smaller_float, holds_float}
 
 -- ---- the order of numbers is that of their values
 ltb_same : (p q a b : ℕ) → (a < b → p < q) → (b ≤ a → q ≤ p) → ltb p q ≡ ltb a b
@@ -60,7 +61,7 @@ pub may_float : (x : ℕ) → x < 8388608 → T (in_float binary32 (pos x))
 unfolding in_float
 may_float x h = le→leb x 16777216 (omega arith)
 
-pub back : (x : ℕ) → x < 8388608 → T (in_signed binary32 31 (key_float x)) × (to_signed 31 (key_float x) ≡ pos x)
+back : (x : ℕ) → x < 8388608 → T (in_signed binary32 31 (key_float x)) × (to_signed 31 (key_float x) ≡ pos x)
 back x h = positive_back binary32 31 x (may_float x h) (omega arith)
 
 -- ---- the larger and the smaller of two
@@ -84,3 +85,12 @@ either n x y h g = by (ltb x y)
     by : (t : Bool) → (cond t y x < n) × (cond t x y < n)
     by true = (g, h)
     by false = (h, g)
+
+-- ---- the keys back
+module _ {v : Float} {x : ℕ} (h : holds_float v x) where
+  -- what is asked of a number, and what comes of it
+  pub asked : T (in_signed binary32 31 v) × T (non_neg (to_signed 31 v)) × (nat_abs (to_signed 31 v) < 8388608)
+  asked = let b = back x h.1 in rw h.0 (b.0, rw b.1 tt, rw b.1 h.1)
+
+  pub key_back : nat_abs (to_signed 31 v) ≡ x
+  key_back = ap (λ (u : Float). nat_abs (to_signed 31 u)) h.0 ∙ ap nat_abs (back x h.1).1

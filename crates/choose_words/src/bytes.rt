@@ -3,6 +3,7 @@ ghost use Rattle.std.specs.Prelude.{◌≡◌, ◌*◌, pos};
 ghost use Rattle.std.proofs.Common.{w16};
 ghost use lib.Dec.{lit<};
 ghost use Rattle.base.proofs.Whole.{fits_at};
+ghost use Rattle.rules_choosing.specs.Keys.{larger, smaller};
 
 use crate::{Number, Told};
 
@@ -18,6 +19,10 @@ impl Number for i16 {
     ghost holds = { λ key x. key ≡ pos x };
 
     ghost lead = { λ l. l };
+
+    ghost larger_of = { larger };
+
+    ghost smaller_of = { smaller };
 
     fn zero() -> i16 {
         0

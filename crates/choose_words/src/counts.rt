@@ -1,19 +1,40 @@
 // Counts, 1024ths of a full chip. Their keys are f32, which has every whole number up to 2^24: one instruction compares
 // four of them, where i32 need several.
-ghost use Rattle.std.specs.Prelude.{◌≡◌, ℕ};
+ghost use Rattle.std.specs.Prelude.{◌≡◌, ◌*◌, ◌-◌, ◌/◌, ◌%◌, ◌<◌, ◌≤◌, T, nat_abs};
+ghost use Rattle.std.specs.Int.Signed.{non_neg};
+ghost use Rattle.std.specs.Float.{binary32};
+ghost use Rattle.std.specs.Float.Ieee.{in_signed, to_signed};
 ghost use Rattle.std.proofs.Common.{w32};
 ghost use lib.Dec.{lit<};
 ghost use Rattle.base.proofs.Whole.{fits_at};
-ghost use Rattle.choose_words.specs.Floats.{holds_float};
+ghost use Rattle.choose_words.specs.Floats.{larger_float, smaller_float, holds_float};
 
 use crate::Number;
 
-// The key that an f32 holds.
-fn whole_of(key: f32) -> u32
-    requires { (x : ℕ) × holds_float key x }
-    ensures { (x : ℕ) → holds_float key x → result ≡ x }
+// The key that an f32 holds: its whole part.
+fn key_of(x: f32) -> u32
+    requires { T (in_signed binary32 31 x) × T (non_neg (to_signed 31 x)) × (nat_abs (to_signed 31 x) < 8388608) }
+    ensures { result ≡ nat_abs (to_signed 31 x) }
 {
-    (key as i32) as u32
+    (x as i32) as u32
+}
+
+// The number of the word that has a key.
+fn number_of(w: u8, key: u32) -> u8
+    requires { (0 < w) × (w ≤ 4) }
+    ensures { result ≡ 4 * w - 1 - key % (4 * w) }
+{
+    let m = 4 * (w as u32);
+    (m - 1 - key % m) as u8
+}
+
+// The lead of the word that has the first of two keys.
+fn lead_of(w: u8, first: u32, second: u32) -> u32
+    requires { (0 < w) × (w ≤ 4) × (second ≤ first) }
+    ensures { result ≡ first / (4 * w) - second / (4 * w) }
+{
+    let m = 4 * (w as u32);
+    first / m - second / m
 }
 
 impl Number for i32 {
@@ -28,6 +49,10 @@ impl Number for i32 {
     ghost holds = { holds_float };
 
     ghost lead = { λ l. l };
+
+    ghost larger_of = { larger_float };
+
+    ghost smaller_of = { smaller_float };
 
     fn zero() -> i32 {
         0
@@ -48,13 +73,11 @@ impl Number for i32 {
     }
 
     fn number_of(w: u8, key: f32) -> u8 {
-        let m = 4 * (w as u32);
-        (m - 1 - whole_of(key) % m) as u8
+        number_of(w, key_of(key))
     }
 
     fn lead_of(w: u8, first: f32, second: f32) -> u32 {
-        let m = 4 * (w as u32);
-        whole_of(first) / m - whole_of(second) / m
+        lead_of(w, key_of(first), key_of(second))
     }
 
     ghost adds = { λ a b h. fits_at w32 h (lit< tt) };

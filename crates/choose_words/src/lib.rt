@@ -40,6 +40,11 @@ pub trait Number: Copy + Add<Output = Self> + Sub<Output = Self> {
 
     ghost lead: { Self.Lead → ℕ };
 
+    // The larger and the smaller of any two keys, whatever they hold.
+    ghost larger_of: { Self.Key → Self.Key → Self.Key };
+
+    ghost smaller_of: { Self.Key → Self.Key → Self.Key };
+
     fn zero() -> Self
         ensures { whole result ≡ pos 0 };
 
@@ -50,11 +55,13 @@ pub trait Number: Copy + Add<Output = Self> + Sub<Output = Self> {
 
     // The larger of two keys.
     fn larger(a: Self::Key, b: Self::Key) -> Self::Key
-        ensures { (x y : ℕ) → holds a x → holds b y → holds result (bigger x y) };
+        ensures is { result ≡ larger_of a b }
+        ensures holds { (x y : ℕ) → holds a x → holds b y → holds result (bigger x y) };
 
     // The smaller of them.
     fn smaller(a: Self::Key, b: Self::Key) -> Self::Key
-        ensures { (x y : ℕ) → holds a x → holds b y → holds result (lesser x y) };
+        ensures is { result ≡ smaller_of a b }
+        ensures holds { (x y : ℕ) → holds a x → holds b y → holds result (lesser x y) };
 
     // The number of the word that has a key.
     fn number_of(w: u8, key: Self::Key) -> u8
@@ -173,7 +180,9 @@ fn two_keys<T: Number>(w: u8, s: T, n: u8, t: T) -> Two<T::Key>
 
 // The two largest of what a and b are the two largest of.
 fn merge<T: Number>(a: Two<T::Key>, b: Two<T::Key>) -> Two<T::Key>
-    ensures { (k : ℕ → ℕ) (m n l : ℕ) → HeldTwo T.holds k m n a.first a.second
+    ensures is { (result.first ≡ T.larger_of a.first b.first) × (result.second ≡
+        T.larger_of (T.smaller_of a.first b.first) (T.larger_of a.second b.second)) }
+    ensures two { (k : ℕ → ℕ) (m n l : ℕ) → HeldTwo T.holds k m n a.first a.second
         → HeldTwo T.holds k n l b.first b.second → HeldTwo T.holds k m l result.first result.second }
 {
     let low = T::smaller(a.first, b.first);

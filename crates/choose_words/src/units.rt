@@ -3,6 +3,7 @@ ghost use Rattle.std.specs.Prelude.{◌≡◌, ◌*◌};
 ghost use Rattle.std.proofs.Common.{w8};
 ghost use lib.Dec.{lit<};
 ghost use Rattle.base.proofs.Whole.{fits_at};
+ghost use Rattle.rules_choosing.specs.Keys.{bigger, lesser};
 
 use crate::{Number, Told};
 
@@ -18,6 +19,10 @@ impl Number for i8 {
     ghost holds = { λ key x. key ≡ x };
 
     ghost lead = { λ l. l };
+
+    ghost larger_of = { bigger };
+
+    ghost smaller_of = { lesser };
 
     fn zero() -> i8 {
         0

@@ -10,12 +10,12 @@ use rules_rates::Rate;
 pub enum Refusal {
     // promise: the kind is neither 0 (long) nor 1 (short)
     // rule: 6.4 (1), 5.4, 6.14
-    // code: is_kind
+    // code: is_kind, rules_frame::try_from
     // with: is_kind
     NoKind,
     // promise: the rate code is not one of the four
     // rule: 6.4 (2), 5.8
-    // code: is_code
+    // code: is_code, rules_rates::try_from
     // with: is_code
     NoRate,
     // promise: rate code 10 with the short kind

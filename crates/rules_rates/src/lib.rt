@@ -167,12 +167,10 @@ impl TryFrom<u64> for Rate {
     ghost try_from_gives = { Coded };
 
     fn try_from(code: u64) -> Result<Self, UnknownRate> {
-        match code {
-            Rate::CODE_ONE => Ok(Rate::One),
-            Rate::CODE_TWO => Ok(Rate::Two),
-            Rate::CODE_FIVE => Ok(Rate::Five),
-            Rate::CODE_ELEVEN => Ok(Rate::Eleven),
-            _ => Err(UnknownRate(code)),
+        if is_code(code) {
+            Ok(rate_of(code))
+        } else {
+            Err(UnknownRate(code))
         }
     }
 }

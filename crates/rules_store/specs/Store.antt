@@ -33,13 +33,13 @@ entries octets = entries_in (count octets) (drop 2 octets)
 -- a store of fewer than 2 octets is shorter than any table's end
 -- promise: the store is shorter than 2 octets, or than its table of contents
 -- rule: 6.4 (21), 6.25
--- code: store_keep::read
+-- code: store_keep::read, store_keep::locate
 abbrev pub tabled : List ℕ → Bool
 tabled octets = leb (table_end (count octets)) (length octets)
 
 -- promise: the store has more than 16 entries
 -- rule: 6.4 (22), 6.24, 6.25
--- code: store_keep::read
+-- code: store_keep::read, store_keep::locate
 abbrev pub few : List ℕ → Bool
 few octets = leb (count octets) 16
 

@@ -1,7 +1,7 @@
 -- The refusals of a store's calls as numbers (RULES 6.4), and as the code answers them. Definitions only. Assumes
 -- nothing.
 -- working notion: of the code that keeps a store; promises are over the numbers
-use Rattle.std.specs.Prelude.{ℕ, List, Result, Ok, Err, cond, not}
+use Rattle.std.specs.Prelude.{ℕ, ◌≡◌, true, false, ◌&&◌, eqb, List, Option, Some, None, Result, Ok, Err, cond, not}
 use Rattle.rules_store.specs.declared.Entry.{Entry}
 use Rattle.rules_store.specs.Store.{body_of, complete, single}
 use Rattle.store_keep.specs.declared.refusal.StoreRefusal.{StoreRefusal}
@@ -34,6 +34,14 @@ number_of NoSuchTag = 30
 abbrev pub number_shown : Result (Unit {0}) StoreRefusal → ℕ
 number_shown (Ok x) = 0
 number_shown (Err e) = number_of e
+
+-- the entries of the three settings, where all are there: where the first body stands, whatever the sizes, and whether
+-- each body has one octet
+abbrev pub ThreeEntries : List Entry → Option (Entry × Entry × Entry) → Type 0
+ThreeEntries es None = complete es ≡ false
+ThreeEntries es (Some t) =
+    (complete es ≡ true) × (t.0.offset ≡ (body_of 1 es).offset)
+    × ((eqb t.0.size 1 && eqb t.1.size 1 && eqb t.2.size 1) ≡ single es)
 
 -- where the first of the three settings stands; 26 and 27
 abbrev pub first_of : List Entry → Result ℕ StoreRefusal

@@ -1,7 +1,7 @@
 // The table of contents of a store: its entries, what is asked of all of them, and where the three settings stand.
 ghost use Rattle.std.specs.Prelude.{◌≡◌, true, cond, not, ◌+◌, ◌*◌, ◌≤◌, ◌<◌, length, drop};
 ghost use Rattle.rules_store.specs.Store.{entry_of, entries_in, table_end, rising, passable, laid as Store·laid};
-ghost use Rattle.store_keep.specs.Refusals.{number_shown, first_of};
+ghost use Rattle.store_keep.specs.Refusals.{number_shown, ThreeEntries, first_of};
 
 use crate::refusal::StoreRefusal;
 use rules_store::Entry;
@@ -52,27 +52,35 @@ pub fn ask(store: &[u8], n: usize) -> Result<(), StoreRefusal>
     Ok(())
 }
 
-// Where the first of the three settings among n entries stands; 26 where not all are there, 27 where one has not one
-// octet. Tags rise, so they are the first three, or stand behind an entry of tag 0; and the third of those has tag 3
-// only if all are there.
-pub fn find_three(store: &[u8], n: usize) -> Result<usize, StoreRefusal>
+// The entries of the three settings among n, if all are there. Tags rise, so they are the first three, or stand behind
+// an entry of tag 0; and the third of those has tag 3 only if all are there.
+fn entries_of(store: &[u8], n: usize) -> Option<(Entry, Entry, Entry)>
     requires { (table_end n ≤ length store.now) × (rising 0 (entries_in n (drop 2 store.now)) ≡ true) }
-    ensures answer { result ≡ first_of (entries_in n (drop 2 store.now)) }
+    ensures answer { ThreeEntries (entries_in n (drop 2 store.now)) result }
 {
     if n < 3 {
-        return Err(StoreRefusal::Lacking);
+        return None;
     }
     let head = entry(store, 0);
     let first = (head.tag == 0) as usize;
     if n < first + 3 {
-        return Err(StoreRefusal::Lacking);
+        return None;
     }
     let a = entry(store, first);
     let b = entry(store, first + 1);
     let c = entry(store, first + 2);
-    if c.tag != 3 {
+    if c.tag == 3 { Some((a, b, c)) } else { None }
+}
+
+// Where the first of the three settings among n entries stands; 26 where not all are there, 27 where one has not one
+// octet.
+pub fn find_three(store: &[u8], n: usize) -> Result<usize, StoreRefusal>
+    requires { (table_end n ≤ length store.now) × (rising 0 (entries_in n (drop 2 store.now)) ≡ true) }
+    ensures answer { result ≡ first_of (entries_in n (drop 2 store.now)) }
+{
+    let Some((a, b, c)) = entries_of(store, n) else {
         return Err(StoreRefusal::Lacking);
-    }
+    };
     if a.size == 1 && b.size == 1 && c.size == 1 {
         Ok(a.offset)
     } else {

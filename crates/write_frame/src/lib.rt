@@ -66,7 +66,7 @@ fn put_frame(f: Frame, p: u8, clock: bool, payload: &[u8], chips: &mut [u8])
     let l = put_front(f.kind, p, &header, chips);
     let at = common_kinds::front_chips(f.kind);
     write_octets::put_octets(f.rate, l, payload, &mut chips[at..]);
-    chips[f.chips..].fill(4);
+    common_rows::fill(&mut chips[f.chips..], 4);
 }
 
 // A frame's chips from its payload; the answer tells the refusal, or how many chips were written. A clock of 0 is no,
@@ -87,7 +87,7 @@ pub fn write(
     let writing = checks::check_write(kind, rate, phase, payload.len(), chips.len());
     match writing {
         Ok(frame) => put_frame(frame, phase as u8, clock != 0, payload, chips),
-        Err(_) => chips.fill(4),
+        Err(_) => common_rows::fill(chips, 4),
     }
     common_answers::written_of(writing)
 }

@@ -16,6 +16,6 @@ two_keys-d-requires g c = (omega arith, score_within g.T.Number.whole 8 c.args.h
 
 pub returns : goal.returns
 returns g c =
-    c.merge-3.ensures _ _ _ _
-    (c.merge.ensures _ _ _ _ (held_keys g.T.Number.whole c.args.h 0 _ _ (search rules) (omega arith) c.two_keys-a.ensures.first c.two_keys-a.ensures.second) (held_keys g.T.Number.whole c.args.h 2 _ _ (search rules) (omega arith) c.two_keys-b.ensures.first c.two_keys-b.ensures.second))
-    (c.merge-2.ensures _ _ _ _ (held_keys g.T.Number.whole c.args.h 4 _ _ (search rules) (omega arith) c.two_keys-c.ensures.first c.two_keys-c.ensures.second) (held_keys g.T.Number.whole c.args.h 6 _ _ (search rules) (omega arith) c.two_keys-d.ensures.first c.two_keys-d.ensures.second))
+    c.merge-3.ensures.two _ _ _ _
+    (c.merge.ensures.two _ _ _ _ (held_keys g.T.Number.whole c.args.h 0 _ _ (search rules) (omega arith) c.two_keys-a.ensures.first c.two_keys-a.ensures.second) (held_keys g.T.Number.whole c.args.h 2 _ _ (search rules) (omega arith) c.two_keys-b.ensures.first c.two_keys-b.ensures.second))
+    (c.merge-2.ensures.two _ _ _ _ (held_keys g.T.Number.whole c.args.h 4 _ _ (search rules) (omega arith) c.two_keys-c.ensures.first c.two_keys-c.ensures.second) (held_keys g.T.Number.whole c.args.h 6 _ _ (search rules) (omega arith) c.two_keys-d.ensures.first c.two_keys-d.ensures.second))

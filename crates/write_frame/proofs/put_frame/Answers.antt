@@ -39,7 +39,7 @@ returns c =
     let rest = c.put_octets in
     record {
       chips = all c.args.f.kind c.args.f.rate _ c.args.clock _ c.args.f.chips _ c.args.payload.now _ front.new.chips
-          rest.new.chips c.fill.new.self _ header.ensures.answer.0 header.ensures.answer.1 front.ensures.answer
+          rest.new.chips c.fill.new.row _ header.ensures.answer.0 header.ensures.answer.1 front.ensures.answer
           front.ensures.chips c.front_chips-at.ensures.answer rest.ensures.chips c.requires.1 c.requires.2
-          (c.fill.ensures.after (λ y h. h));
+          c.fill.ensures.row;
     }

@@ -35,5 +35,5 @@ pub returns-clause-chips : goal.returns-clause-chips
 returns-clause-chips c =
     elim c.match-writing.branch [
       | in-Ok w ↦ w.chips-is ∙ framed _ _ _ _ _ _ _ _ _ c.check_write-writing.ensures.answer w.in-Ok.is w.put_frame.ensures.chips
-      | in-Err w ↦ w.chips-is ∙ refused _ _ _ _ _ _ _ _ _ c.check_write-writing.ensures.answer w.in-Err.is (w.fill.ensures.after (λ y h. h))
+      | in-Err w ↦ w.chips-is ∙ refused _ _ _ _ _ _ _ _ _ c.check_write-writing.ensures.answer w.in-Err.is w.fill.ensures.row
     ]

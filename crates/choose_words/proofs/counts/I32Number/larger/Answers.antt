@@ -1,18 +1,22 @@
-use Rattle.std.proofs.Common.{Bool, cond, sym, ap, ◌∙◌}
-use Rattle.choose_words.specs.Floats.{larger_float}
+use Rattle.std.proofs.Common.{◌≡◌, Bool, cond, ℕ, sym, ap, ◌∙◌}
+use lib.Ieee.{Float}
+use Rattle.rules_choosing.specs.Keys.{bigger}
+use Rattle.choose_words.specs.Floats.{larger_float, holds_float}
 use Rattle.choose_words.proofs.Floats.{larger_is, either}
 use Rattle.choose_words.proofs.counts.I32Number.larger.Goals as goal
 
+-- of two keys it is the larger one
+of_keys : {a b r : Float} → r ≡ larger_float a b → (x y : ℕ) → holds_float a x → holds_float b y
+    → holds_float r (bigger x y)
+of_keys e x y h k =
+    (e ∙ (λ i. larger_float (h.0 i) (k.0 i)) ∙ larger_is x y h.1 k.1, (either 8388608 x y h.1 k.1).0)
+
 pub returns-then-a-b : goal.returns-then-a-b
-returns-then-a-b c = λ x y h k. (
-  sym (ap (λ (t : Bool). cond t c.args.b c.args.a) c.if-a-b.true) ∙ (λ i. larger_float (h.0 i) (k.0 i))
-      ∙ larger_is x y h.1 k.1,
-  (either 8388608 x y h.1 k.1).0,
-)
+returns-then-a-b c =
+    let e = sym (ap (λ (t : Bool). cond t c.args.b c.args.a) c.if-a-b.true) in
+    record { is = e; holds = of_keys e }
 
 pub returns-else-a-b : goal.returns-else-a-b
-returns-else-a-b c = λ x y h k. (
-  sym (ap (λ (t : Bool). cond t c.args.b c.args.a) c.if-a-b.false) ∙ (λ i. larger_float (h.0 i) (k.0 i))
-      ∙ larger_is x y h.1 k.1,
-  (either 8388608 x y h.1 k.1).0,
-)
+returns-else-a-b c =
+    let e = sym (ap (λ (t : Bool). cond t c.args.b c.args.a) c.if-a-b.false) in
+    record { is = e; holds = of_keys e }
