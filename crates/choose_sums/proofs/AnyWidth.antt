@@ -24,7 +24,7 @@ use Rattle.choose_sums.specs.Sums.{crossed, key_at}
 use Rattle.choose_sums.proofs.Crossed.{shape0, shape1, shape2, shape3}
 use Rattle.choose_sums.proofs.KeyTops.{second_le, two_of_lem, two_merge}
 
--- ---- what the code makes of two rows
+-- ---- what is made of two rows
 module _ (w : Width) (s t : List ℤ) where
   abbrev plus : ℕ → ℕ → ℕ
   plus u v = of_z w (to_z w u +ℤ to_z w v)

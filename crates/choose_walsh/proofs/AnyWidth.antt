@@ -37,7 +37,7 @@ module _ {w : Width} {c : ℕ} (few : c < 2 ^ hbits w) where
   reads_larger {y = y} {z} h g e =
       made (e ∙ (λ i. larger (h.is i) (g.is i))) (within_one (lt_z y z) g.within h.within) few
 
--- ---- what the code makes of a column
+-- ---- what is made of a column
 module _ (w : Width) (x y : Counts) where
   abbrev rd : ℤ → ℤ
   rd z = to_z w (of_z w z)
