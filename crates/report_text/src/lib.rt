@@ -5,7 +5,7 @@
 ghost use Rattle.std.specs.Prelude.{◌≡◌, [], ◌∷◌, ◌++◌, ◌+◌, ◌≤◌, length};
 ghost use Rattle.rules_report.specs.Text.{decimal, places, rate_line, refused_line, refused_lines, airtime_line};
 ghost use Rattle.rules_report.specs.Text.{lead_line, text_of, spelled_of, text_left};
-ghost use Rattle.report_text.specs.Placed.{PutOn, pair_line, code_at, rate_lines};
+ghost use Rattle.report_text.specs.Placed.{Placed, PutOn, pair_line, code_at, rate_lines};
 
 use rules_report::{Report, Spelled};
 
@@ -35,6 +35,21 @@ fn code_of(k: usize) -> u64
     }
 }
 
+// A number's digits put into a row from a place on, the last one first; where they end.
+#[inline(never)]
+fn put_digits(x: u64, at: usize, row: &mut [u8; 980]) -> usize
+    requires { at + length (decimal x) ≤ 980 }
+    ensures answer { Placed (decimal x) at row.old result row.new }
+{
+    let end = at + digits_of(x);
+    let mut rest = x;
+    for i in (at..end).rev() {
+        row[i] = 48 + (rest % 10) as u8;
+        rest /= 10;
+    }
+    end
+}
+
 // A page with room for the longest text, and where the octets put on it end.
 #[derive(Clone, Copy)]
 struct Page {
@@ -43,19 +58,14 @@ struct Page {
 }
 
 impl Page {
-    // A number's digits, the last one first.
-    #[inline(never)]
+    // A number's digits. Inlined, and they are put by a function that tells where they end: that is known without a
+    // look at the page.
+    #[inline(always)]
     fn put_number(&mut self, x: u64)
         requires { self.old.end + length (decimal x) ≤ 980 }
         ensures page { PutOn (decimal x) self.old self.new }
     {
-        let end = self.end + digits_of(x);
-        let mut rest = x;
-        for i in (self.end..end).rev() {
-            self.row[i] = 48 + (rest % 10) as u8;
-            rest /= 10;
-        }
-        self.end = end;
+        self.end = put_digits(x, self.end, &mut self.row);
     }
 
     // A word's octets. Inlined, its length is known where it is put, and no call is made to copy it.

@@ -19,7 +19,7 @@ use borrow.Author.Rules.{rules}
 use Rattle.rules_report.specs.Text.{digits, places, decimal}
 use Rattle.rules_report.proofs.Spelling.{length_decimal}
 use Rattle.report_text.specs.Placed.{Placed}
-use Rattle.report_text.proofs.Page.put_number.Goals as goal
+use Rattle.report_text.proofs.put_digits.Goals as goal
 
 start : (x at end : ℕ) (d : List ℕ) → digits (end - at) x ≡ digits (end - at) x ++ slice end end d
 start x at end d = rw (slice_empty end d) (sym (append-nil (digits (end - at) x)))
@@ -74,14 +74,14 @@ overflow_add-end c = omega (arith, length_decimal c.args.x, c.digits_of.ensures.
 pub loop-i-init : goal.loop-i-init
 loop-i-init c = (search rules, omega arith, refl, refl, start _ _ _ _)
 
-pub bounds-self-i : goal.bounds-self-i
-bounds-self-i c = omega (arith, length_decimal c.args.x, c.digits_of.ensures.answer)
+pub bounds-row-i : goal.bounds-row-i
+bounds-row-i c = omega (arith, length_decimal c.args.x, c.digits_of.ensures.answer)
 
 pub loop-i-preserved : goal.loop-i-preserved
 loop-i-preserved c =
     let now = c.loop-i in
-    let at = c.args.self.now.end in
-    let row = now.self.row in (
+    let at = c.args.at in
+    let row = now.row in (
       simp length-set now.invariant.0,
       omega arith,
       kept _ row at now.i _ (omega arith) now.invariant.2,
@@ -94,6 +94,6 @@ pub returns : goal.returns
 returns c =
     let now = c.loop-i in
     record {
-      page = whole _ _ _ now.i now.rest _ now.self.row c.digits_of.ensures.answer (omega arith) now.invariant.2
+      answer = whole _ _ _ now.i now.rest _ now.row c.digits_of.ensures.answer (omega arith) now.invariant.2
           now.invariant.3 now.invariant.4;
     }

@@ -3,10 +3,10 @@
 use Rattle.std.proofs.Common.{◌≡◌, ◌-◌, ◌++◌, ◌≤◌, length, take, drop}
 use lib.Seq.{slice}
 use Rattle.rules_report.specs.Text.{digits}
-use Rattle.report_text.proofs.Page.put_number.Given as goal
+use Rattle.report_text.proofs.put_digits.Given as goal
 
 abbrev pub invariant-loop-i : goal.invariant-loop-i
 invariant-loop-i l =
-    (length l.self.row ≡ 980) × (l.fn.self.end ≤ l.i) × (take l.fn.self.end l.self.row ≡ take l.fn.self.end l.fn.self.row)
-    × (drop l.end l.self.row ≡ drop l.end l.fn.self.row)
-    × (digits (l.end - l.fn.self.end) l.x ≡ digits (l.i - l.fn.self.end) l.rest ++ slice l.i l.end l.self.row)
+    (length l.row ≡ 980) × (l.at ≤ l.i) × (take l.at l.row ≡ take l.at l.fn.row)
+    × (drop l.end l.row ≡ drop l.end l.fn.row)
+    × (digits (l.end - l.at) l.x ≡ digits (l.i - l.at) l.rest ++ slice l.i l.end l.row)
