@@ -139,9 +139,9 @@ impl Page {
     }
 
     // The lines of refusals 1 to 17.
-    fn refused_lines(&mut self, refused: [u64; 18])
-        requires { self.old.end + length (refused_lines 17 refused) ≤ 980 }
-        ensures page { PutOn (refused_lines 17 refused) self.old self.new }
+    fn refused_lines(&mut self, refused: &[u64; 18])
+        requires { self.old.end + length (refused_lines 17 refused.now) ≤ 980 }
+        ensures page { PutOn (refused_lines 17 refused.now) self.old self.new }
     {
         for number in 1..18 {
             self.refused_line(number as u64, refused[number]);
@@ -175,7 +175,7 @@ impl Page {
         ensures page { PutOn (text_of report) self.old self.new }
     {
         self.rate_lines(report.frames, report.octets);
-        self.refused_lines(report.refused);
+        self.refused_lines(&report.refused);
         self.airtime_line(report.airtime);
         self.lead_line(report.some, report.lead, report.recording);
     }

@@ -48,15 +48,15 @@ loop-number-init c = none _ _ _
 
 pub refused_line-requires : goal.refused_line-requires
 refused_line-requires c =
-    room c.args.refused c.loop-number.number c.args.self.now.end _ (omega arith) (omega arith)
+    room c.args.refused.now c.loop-number.number c.args.self.now.end _ (omega arith) (omega arith)
     c.loop-number.invariant.stop c.requires
 
 pub loop-number-preserved : goal.loop-number-preserved
 loop-number-preserved c =
-    turn c.args.refused c.loop-number.number (omega arith) c.loop-number.invariant c.refused_line.ensures.page
+    turn c.args.refused.now c.loop-number.number (omega arith) c.loop-number.invariant c.refused_line.ensures.page
 
 pub returns : goal.returns
 returns c =
     record {
-      page = whole c.args.refused _ _ (c.loop-number.number - 1) _ _ (omega arith) c.loop-number.invariant;
+      page = whole c.args.refused.now _ _ (c.loop-number.number - 1) _ _ (omega arith) c.loop-number.invariant;
     }
