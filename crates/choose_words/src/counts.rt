@@ -11,7 +11,7 @@ ghost use Rattle.choose_words.specs.Floats.{larger_float, smaller_float, holds_f
 
 use crate::Number;
 
-// The key that an f32 holds: its whole part.
+// The key that an f32 holds, which has to be a whole number, not negative and below 2^23.
 fn key_of(x: f32) -> u32
     requires { T (in_signed binary32 31 x) × T (non_neg (to_signed 31 x)) × (nat_abs (to_signed 31 x) < 8388608) }
     ensures { result ≡ nat_abs (to_signed 31 x) }

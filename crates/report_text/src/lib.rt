@@ -35,7 +35,7 @@ fn code_of(k: usize) -> u64
     }
 }
 
-// A number's digits put into a row from a place on, the last one first; where they end.
+// Puts a number's digits into a row from a place on, the last one first, and answers where they end.
 #[inline(never)]
 fn put_digits(x: u64, at: usize, row: &mut [u8; 980]) -> usize
     requires { at + length (decimal x) ≤ 980 }
@@ -58,8 +58,7 @@ struct Page {
 }
 
 impl Page {
-    // A number's digits. Inlined, and they are put by a function that tells where they end: that is known without a
-    // look at the page.
+    // A number's digits. Inlined, where they end goes to the next word as a value, and is not read back from the page.
     #[inline(always)]
     fn put_number(&mut self, x: u64)
         requires { self.old.end + length (decimal x) ≤ 980 }

@@ -54,7 +54,7 @@ pub fn ask(store: &[u8], n: usize) -> Result<(), StoreRefusal>
 
 // The entries of the three settings among n, if all are there. Tags rise, so they are the first three, or stand behind
 // an entry of tag 0; and the third of those has tag 3 only if all are there.
-fn entries_of(store: &[u8], n: usize) -> Option<(Entry, Entry, Entry)>
+fn three_entries(store: &[u8], n: usize) -> Option<(Entry, Entry, Entry)>
     requires { (table_end n ≤ length store.now) × (rising 0 (entries_in n (drop 2 store.now)) ≡ true) }
     ensures answer { ThreeEntries (entries_in n (drop 2 store.now)) result }
 {
@@ -78,7 +78,7 @@ pub fn find_three(store: &[u8], n: usize) -> Result<usize, StoreRefusal>
     requires { (table_end n ≤ length store.now) × (rising 0 (entries_in n (drop 2 store.now)) ≡ true) }
     ensures answer { result ≡ first_of (entries_in n (drop 2 store.now)) }
 {
-    let Some((a, b, c)) = entries_of(store, n) else {
+    let Some((a, b, c)) = three_entries(store, n) else {
         return Err(StoreRefusal::Lacking);
     };
     if a.size == 1 && b.size == 1 && c.size == 1 {

@@ -2,7 +2,7 @@
 use Rattle.std.proofs.Common.{sym, ◌∙◌, arith}
 use borrow.Author.Tests.{eq-eqb, ne_eqb}
 use Rattle.rules_store.proofs.Firsts.{first_is, none_of_few, too_few, third_tells, ones_tell, place_tells}
-use Rattle.store_keep.proofs.table.entries_of.Goals as goal
+use Rattle.store_keep.proofs.table.three_entries.Goals as goal
 
 pub returns-then-n-lt3 : goal.returns-then-n-lt3
 returns-then-n-lt3 c =
